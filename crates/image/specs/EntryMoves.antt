@@ -1,0 +1,102 @@
+-- The entry cursor of one table and what it shows, on any bytes: document 01, 'Looking, moving, showing'.
+use Prim.Native.Nat.{ℕ, zero, suc, _/_, _%_}
+use mathlib.Core.List.{List, []}
+use mathlib.Core.Bool.{Bool, true}
+use lib.ListN.{length}
+use lib.Dec.{leb, eqb}
+use Rattle.rule.specs.Lists.{cond, both}
+use Rattle.rule.specs.Entries.{valueKind}
+use Rattle.image.specs.Limits.{maxKey, maxNumber}
+use Rattle.image.specs.Words.{part}
+use Rattle.image.specs.Readers.{Read, got, bad, bind, check}
+use Rattle.image.specs.Entries.{Keyed, Parts, keyIn, numberIn}
+use Rattle.image.specs.Nodes.{count, Lead, Node, leadOf, nodeAt, linkPlace, linkOf}
+use Rattle.image.specs.Sound.{headerHolds}
+use Rattle.image.specs.Search.{toStop, toGoDown, searched, standing, passed}
+use Rattle.image.specs.Refusals.{badImage, badNumber, longKey, noNode, Answer, refused, given, demand, reading}
+
+-- nowhere, or on a node
+pub data Cursor : Type 0 where
+  nowhere : Cursor
+  on : ℕ → Cursor
+
+-- a node number as a cursor; 0 is none
+abbrev pub cursorAt : ℕ → Cursor
+cursorAt zero = nowhere
+cursorAt (suc i) = on (suc i)
+
+-- a cursor names a node of the table, or none
+abbrev pub inTable : List ℕ → Cursor → Bool
+inTable xs nowhere = true
+inTable xs (on i) = both (leb 1 i) (leb i (count xs))
+
+pub data EntryMove : Type 0 where
+  first : EntryMove
+  seek : List ℕ → ℕ → EntryMove
+  next : EntryMove
+  previous : EntryMove
+
+-- where the lowest link of a node leads; a link above n is bad
+abbrev pub follow : List ℕ → ℕ → Read Cursor
+follow xs i = check (leb (linkOf xs i 0) (count xs)) (linkPlace xs i 0) (got (cursorAt (linkOf xs i 0)))
+
+-- the last node before the key and number of a node
+abbrev pub smaller : List ℕ → Lead → Read Cursor
+smaller xs m = bind (searched xs toGoDown (keyIn xs (m .keyed)) (numberIn (m .keyed))) (λ r. got (cursorAt (passed r)))
+
+-- where a move leads from a cursor in the table
+abbrev pub moved : List ℕ → EntryMove → Cursor → Read Cursor
+moved xs first c = follow xs 0
+moved xs (seek k n) c = bind (searched xs toStop k n) (λ r. got (cursorAt (standing r)))
+moved xs next nowhere = follow xs 0
+moved xs next (on i) = bind (leadOf xs i) (λ m. follow xs i)
+moved xs previous nowhere = got nowhere
+moved xs previous (on i) = bind (leadOf xs i) (smaller xs)
+
+-- what a move demands of its arguments
+abbrev pub allowed {ℓ} : {A : Type ℓ} → EntryMove → Answer A → Answer A
+allowed first a = a
+allowed (seek k n) a = demand (leb n maxNumber) badNumber (demand (leb (length k) maxKey) longKey a)
+allowed next a = a
+allowed previous a = a
+
+-- the call; refusals 1, 10, 3, 4, 9. A refused move hands back the cursor that it was handed
+abbrev pub entryMove : List ℕ → EntryMove → Cursor → Answer Cursor
+entryMove xs m c = demand (headerHolds xs) badImage (demand (inTable xs c) noNode (allowed m (reading (moved xs m c) given)))
+
+abbrev pub cursorAfter : Cursor → Answer Cursor → Cursor
+cursorAfter c (refused r) = c
+cursorAfter c (given d) = d
+
+-- ---- what stands at a cursor
+
+-- a part of the image
+pub record Span : Type 0 where
+  pub at : ℕ
+  pub len : ℕ
+
+abbrev pub emptySpan : Span
+emptySpan = record { at = 0; len = 0 }
+
+-- the bytes of a view: a refused one is empty
+abbrev pub viewed : List ℕ → Answer Span → List ℕ
+viewed xs (refused r) = []
+viewed xs (given s) = part xs (s .at) (s .len)
+
+-- what a node shows, and what nowhere shows; refusals 1, 10, 9
+abbrev pub view {ℓ} : {A : Type ℓ} → List ℕ → Cursor → (Parts → A) → A → Answer A
+view xs nowhere show empty = demand (headerHolds xs) badImage (given empty)
+view xs (on i) show empty = demand (headerHolds xs) badImage (demand (inTable xs (on i)) noNode (reading (nodeAt xs i) (λ m. given (show (m .parts)))))
+
+abbrev pub keyView : List ℕ → Cursor → Answer Span
+keyView xs c = view xs c (λ p. record { at = p .keyed .keyAt; len = p .keyed .keyLen }) emptySpan
+
+abbrev pub numberView : List ℕ → Cursor → Answer ℕ
+numberView xs c = view xs c (λ p. numberIn (p .keyed)) 0
+
+abbrev pub kindView : List ℕ → Cursor → Answer ℕ
+kindView xs c = view xs c (λ p. p .keyed .tagIs % 256) 0
+
+-- the value; a deletion's is empty
+abbrev pub valueView : List ℕ → Cursor → Answer Span
+valueView xs c = view xs c (λ p. cond (eqb (p .keyed .tagIs % 256) valueKind) (record { at = p .valueAt; len = p .valueLen }) emptySpan) emptySpan

@@ -1,0 +1,14 @@
+pub mod Limits
+pub mod Words
+pub mod Readers
+pub mod Entries
+pub mod Nodes
+pub mod Chains
+pub mod Sound
+pub mod Search
+pub mod Refusals
+pub mod Fresh
+pub mod Add
+pub mod Lookup
+pub mod EntryMoves
+pub mod Check

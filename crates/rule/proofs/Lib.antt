@@ -1,0 +1,5 @@
+pub mod Lists
+pub mod Order
+pub mod Rows
+pub mod Moves
+pub mod Nearest

@@ -1,0 +1,181 @@
+-- What decides the newest entry of a key and its row: how it is characterised, and that order, split and later numbers do not count.
+use Prim.Native.Nat.{ℕ, _<_, _≤_}
+use native.Mathlib.Omega.{arith}
+use native.Mathlib.Nat.{le-refl}
+use mathlib.Core.Path.{_≡_, refl, sym, ap, subst, _∙_}
+use mathlib.Core.Logic.{_⊎_, inl, inr, ⊎-elim, _↔_}
+use mathlib.Core.List.{List, [], _∷_, _++_, List·Memᴰ, List·Memᴰ·head, List·Memᴰ·tail, List·Memᴰ·not-nil, List·Memᴰ·cases-cons, List·Memᴰ·append-cases, Memᴰ·append-left, Memᴰ·append-right}
+use mathlib.Core.Bool.{Bool, true, false, true≢false, false≢true}
+use lib.Dec.{ltb, leb}
+use borrow.Author.Tests.{ltb-true, ltb-false, lt-ltb, le-ltb, leb-true, le-leb}
+use Rattle.rule.specs.Lists.{cond, both, Maybe, none, some, isSome, All, Pairwise}
+use Rattle.rule.specs.Order.{Ord, less, equal, greater, compareKeys, compareEntries, isLess, isEqual}
+use Rattle.rule.specs.Entries.{Entry, order, Ascending, Agree, Single}
+use Rattle.rule.specs.Rows.{fits, newer, newest, shown, row}
+use Rattle.rule.proofs.Lists.{both-true, here, all-nil, all-cons, all-append, pairwise-right, pairwise-map, part, mem-insert, mem-without}
+use Rattle.rule.proofs.Order.{keys, entries, comparePairs, greater-not-eq, less-true, equal-true, less-passes, entries-less-number, entries-not-less-number}
+
+-- the entry counts for the key k up to the number s
+pub record Fits (k : List ℕ) (s : ℕ) (e : Entry) : Type 0 where
+  pub key : e .key ≡ k
+  pub number : e .number ≤ s
+
+pub fits-true : (k : List ℕ) (s : ℕ) (e : Entry) → fits k s e ≡ true → Fits k s e
+fits-true k s e h = let (a, b) = both-true (isEqual (compareKeys (e .key) k)) (leb (e .number) s) h in record {
+  key = keys .eq (e .key) k (equal-true (compareKeys (e .key) k) a);
+  number = leb-true (e .number) s b;
+}
+
+pub true-fits : (k : List ℕ) (s : ℕ) (e : Entry) → Fits k s e → fits k s e ≡ true
+true-fits k s e f = rw (f .key, keys .same k, le-leb (e .number) s (f .number))
+
+-- what it is to be the newest
+module _ (k : List ℕ) (s : ℕ) where
+  abbrev pub Newest : List Entry → Maybe Entry → Type 0
+  Newest es none = All (λ e. Fits k s e → ⊥) es
+  Newest es (some e) = List·Memᴰ e es × Fits k s e × All (λ f. Fits k s f → f .number ≤ e .number) es
+
+  pub newest-is : (es : List Entry) → Newest es (newest k s es)
+  newest-is [] = all-nil _
+  newest-is (e ∷ es) = go (fits k s e) refl (newest k s es) (newest-is es)
+    where
+      pair : (f : Entry) → Newest es (some f) → Fits k s e → (b : Bool) → ltb (e .number) (f .number) ≡ b → Newest (e ∷ es) (some (cond b f e))
+      pair f (m, g, h) d true p = (List·Memᴰ·tail m, g, all-cons (λ _. omega (arith, ltb-true (e .number) (f .number) p)) h)
+      pair f (m, g, h) d false p = (here, d, all-cons (λ _. le-refl _) (λ x n q. omega (arith, h x n q, ltb-false (e .number) (f .number) p)))
+
+      go : (b : Bool) → fits k s e ≡ b → (n : Maybe Entry) → Newest es n → Newest (e ∷ es) (cond b (some (newer e n)) n)
+      go true p none h = (here, fits-true k s e p, all-cons (λ _. le-refl _) (λ f m q. absurd (h f m q)))
+      go true p (some f) h = pair f h (fits-true k s e p) (ltb (e .number) (f .number)) refl
+      go false p none h = all-cons (λ q. true≢false (sym (true-fits k s e q) ∙ p)) h
+      go false p (some f) (m, g, h) = (List·Memᴰ·tail m, g, all-cons (λ q. absurd (true≢false (sym (true-fits k s e q) ∙ p))) h)
+
+-- an entry with a higher number changes nothing that s sees
+pub agree-insert : (s : ℕ) (es : List Entry) (e : Entry) (fs : List Entry) → s < e .number → Agree s (es ++ fs) (es ++ (e ∷ fs))
+agree-insert s es e fs h f l = (mem-insert es e fs, mem-without es e fs (λ q. let z = ap (λ (d : Entry). d .number) q in omega arith))
+
+-- the newest is the newest of every list with the same entries
+pub newest-agree : (k : List ℕ) (s : ℕ) (es fs : List Entry) → Agree s es fs → Single s es → (m n : Maybe Entry) → Newest k s es m → Newest k s fs n → m ≡ n
+newest-agree k s es fs a u none none p q = refl
+newest-agree k s es fs a u none (some f) p (m, g, h) = absurd (p f ((a f (g .number)) .1 m) g)
+newest-agree k s es fs a u (some e) none (m, g, h) q = absurd (q e ((a e (g .number)) .0 m) g)
+newest-agree k s es fs a u (some e) (some f) (m, g, h) (n, i, j) = ap {B = Maybe Entry} some (u e f m n′ (g .number) (g .key ∙ sym (i .key)) (omega (arith, h f n′ i, j e ((a e (g .number)) .0 m) g)))
+  where
+    n′ : List·Memᴰ f es
+    n′ = (a f (i .number)) .1 n
+
+pub same-newest : (k : List ℕ) (s : ℕ) (es fs : List Entry) → Agree s es fs → Single s es → newest k s es ≡ newest k s fs
+same-newest k s es fs a u = newest-agree k s es fs a u (newest k s es) (newest k s fs) (newest-is k s es) (newest-is k s fs)
+
+pub same-row : (k : List ℕ) (s : ℕ) (es fs : List Entry) → Agree s es fs → Single s es → row k s es ≡ row k s fs
+same-row k s es fs a u = ap shown (same-newest k s es fs a u)
+
+-- a list is parted by a probe
+pub probe-split : (k : List ℕ) (s : ℕ) (es : List Entry) → Ascending es → (lo : List Entry) × (hi : List Entry) × (es ≡ lo ++ hi) × All (λ e. isLess (compareEntries (e .key) (e .number) k s) ≡ true) lo × All (λ e. isLess (compareEntries (e .key) (e .number) k s) ≡ false) hi
+probe-split k s es a = part (λ e. isLess (compareEntries (e .key) (e .number) k s)) es (pairwise-map _ _ es (λ e f h. less-passes comparePairs entries (e .key, e .number) (f .key, f .number) (k, s) h) a)
+
+-- no entry is less than one of the same key and number
+order-strict : (e f : Entry) → e .key ≡ f .key → e .number ≡ f .number → order e f ≡ less → ⊥
+order-strict e f p q h = omega (arith, entries-less-number (e .key) (e .number) (f .key) (f .number) p h)
+
+-- no two entries of one key and number, where what holds between any two forbids it
+pub pairwise-single : (R : Entry → Entry → Type 0) (s : ℕ) → ((e f : Entry) → e .number ≤ s → e .key ≡ f .key → e .number ≡ f .number → R e f → ⊥) → (es : List Entry) → Pairwise R es → Single s es
+pairwise-single R s r [] a e f m n h p q = absurd (List·Memᴰ·not-nil m)
+pairwise-single R s r (d ∷ es) a e f m n h p q = go (List·Memᴰ·cases-cons m) (List·Memᴰ·cases-cons n) (pairwise-single R s r es (a .1) e f)
+  where
+    go : (e ≡ d) ⊎ List·Memᴰ e es → (f ≡ d) ⊎ List·Memᴰ f es → (List·Memᴰ e es → List·Memᴰ f es → e .number ≤ s → e .key ≡ f .key → e .number ≡ f .number → e ≡ f) → e ≡ f
+    go (inl x) (inl y) ih = x ∙ sym y
+    go (inl x) (inr y) ih = absurd (r e f h p q (rw x (a .0 f y)))
+    go (inr x) (inl y) ih = absurd (r f e (omega arith) (sym p) (sym q) (rw y (a .0 e x)))
+    go (inr x) (inr y) ih = ih x y h p q
+
+pub ascending-single : (s : ℕ) (es : List Entry) → Ascending es → Single s es
+ascending-single s es a = pairwise-single (λ e f. order e f ≡ less) s (λ e f h p q r. order-strict e f p q r) es a
+
+-- the first of a list, if it has the key
+abbrev pub front : List ℕ → List Entry → Maybe Entry
+front k [] = none
+front k (e ∷ es) = cond (isEqual (compareKeys (e .key) k)) (some e) none
+
+-- in an ascending list the newest stands at the first place that is not less than the probe
+module _ (k : List ℕ) (s : ℕ) where
+  -- what is less than the probe does not count
+  less-unfit : (e : Entry) → compareEntries (e .key) (e .number) k s ≡ less → Fits k s e → ⊥
+  less-unfit e h f = omega (arith, entries-less-number (e .key) (e .number) k s (f .key) h, f .number)
+
+  -- and may be left out in front
+  newest-skip : (lo hi : List Entry) (n : Maybe Entry) → All (λ e. Fits k s e → ⊥) lo → Newest k s hi n → Newest k s (lo ++ hi) n
+  newest-skip lo hi none u h = all-append lo hi u h
+  newest-skip lo hi (some e) u (m, g, h) = (Memᴰ·append-right lo m, g, all-append lo hi (λ f n q. absurd (u f n q)) h)
+
+  front-newest : (hi : List Entry) → Ascending hi → All (λ e. isLess (compareEntries (e .key) (e .number) k s) ≡ false) hi → Newest k s hi (front k hi)
+  front-newest [] a h = all-nil _
+  front-newest (e ∷ es) a h = go (compareKeys (e .key) k) refl
+    where
+      go : (o : Ord) → compareKeys (e .key) k ≡ o → Newest k s (e ∷ es) (cond (isEqual o) (some e) none)
+      go less p = absurd (true≢false (rw p at (h e here)))
+      go equal p = (here, record { key = keys .eq (e .key) k p; number = entries-not-less-number (e .key) (e .number) k s (keys .eq (e .key) k p) (h e here) }, all-cons (λ _. le-refl _) (λ f m q. omega (arith, entries-less-number (e .key) (e .number) (f .key) (f .number) (keys .eq (e .key) k p ∙ sym (q .key)) (a .0 f m))))
+      go greater p = all-cons (λ q. greater-not-eq compareKeys keys (e .key) k p (q .key)) (λ f m q. false≢true (ap isLess (rw (q .key, p) at (a .0 f m))))
+
+  pub newest-front : (lo hi : List Entry) → Ascending (lo ++ hi) → All (λ e. isLess (compareEntries (e .key) (e .number) k s) ≡ true) lo → All (λ e. isLess (compareEntries (e .key) (e .number) k s) ≡ false) hi → newest k s (lo ++ hi) ≡ front k hi
+  newest-front lo hi a l h = newest-agree k s (lo ++ hi) (lo ++ hi) (λ e _. (λ m. m, λ m. m)) (ascending-single s (lo ++ hi) a) (newest k s (lo ++ hi)) (front k hi) (newest-is k s (lo ++ hi))
+      (newest-skip lo hi (front k hi) (λ e m. less-unfit e (less-true _ (l e m))) (front-newest hi (pairwise-right _ lo hi a) h))
+
+-- the newer of two that may be missing; of equal numbers the first
+abbrev pub latest : Maybe Entry → Maybe Entry → Maybe Entry
+latest none n = n
+latest (some e) n = some (newer e n)
+
+newer-assoc : (e f g : Entry) → newer e (some (newer f (some g))) ≡ newer (newer e (some f)) (some g)
+newer-assoc e f g = go (ltb (e .number) (f .number)) refl (ltb (f .number) (g .number)) refl
+  where
+    go : (p : Bool) → ltb (e .number) (f .number) ≡ p → (q : Bool) → ltb (f .number) (g .number) ≡ q → newer e (some (newer f (some g))) ≡ newer (newer e (some f)) (some g)
+    go true p true q = simp (p, q, lt-ltb (e .number) (g .number) (omega (arith, ltb-true (e .number) (f .number) p, ltb-true (f .number) (g .number) q)))
+    go true p false q = simp (p, q)
+    go false p true q = simp (p, q)
+    go false p false q = simp (p, q, le-ltb (e .number) (g .number) (omega (arith, ltb-false (e .number) (f .number) p, ltb-false (f .number) (g .number) q)))
+
+-- newest of a list in two parts
+pub newest-append : (k : List ℕ) (s : ℕ) (es fs : List Entry) → newest k s (es ++ fs) ≡ latest (newest k s es) (newest k s fs)
+newest-append k s [] fs = refl
+newest-append k s (e ∷ es) fs = rw (newest-append k s es fs) (go (fits k s e) (newest k s es) (newest k s fs))
+  where
+    go : (b : Bool) (m n : Maybe Entry) → cond b (some (newer e (latest m n))) (latest m n) ≡ latest (cond b (some (newer e m)) m) n
+    go false m n = refl
+    go true none n = refl
+    go true (some f) none = refl
+    go true (some f) (some g) = ap {B = Maybe Entry} some (newer-assoc e f g)
+
+-- a row comes from an entry that counts
+pub row-present : (k : List ℕ) (s : ℕ) (es : List Entry) → isSome (row k s es) ≡ true → (e : Entry) × List·Memᴰ e es × Fits k s e
+row-present k s es h = go (newest k s es) (newest-is k s es) h
+  where
+    go : (n : Maybe Entry) → Newest k s es n → isSome (shown n) ≡ true → (e : Entry) × List·Memᴰ e es × Fits k s e
+    go none p q = absurd (false≢true q)
+    go (some e) p q = (e, p .0, p .1)
+
+-- ---- what two lists of entries have in common up to s, whatever their order and split
+
+-- the same members, in any order
+pub agree-same : (s : ℕ) (es fs : List Entry) → ((e : Entry) → List·Memᴰ e es ↔ List·Memᴰ e fs) → Agree s es fs
+agree-same s es fs h e _ = h e
+
+-- two tables in the other order
+pub agree-swap : (s : ℕ) (es fs : List Entry) → Agree s (es ++ fs) (fs ++ es)
+agree-swap s es fs = agree-same s (es ++ fs) (fs ++ es) (λ e. (other es fs, other fs es))
+  where
+    other : {e : Entry} (xs ys : List Entry) → List·Memᴰ e (xs ++ ys) → List·Memᴰ e (ys ++ xs)
+    other xs ys m = ⊎-elim (Memᴰ·append-right ys) (Memᴰ·append-left xs) (List·Memᴰ·append-cases xs m)
+
+pub agree-trans : (s : ℕ) (es fs gs : List Entry) → Agree s es fs → Agree s fs gs → Agree s es gs
+agree-trans s es fs gs h k e l = (λ m. (k e l) .0 ((h e l) .0 m), λ m. (h e l) .1 ((k e l) .1 m))
+
+-- an entry in the one table or in the other
+pub agree-split : (s : ℕ) (es fs gs : List Entry) (e : Entry) → Agree s ((es ++ (e ∷ fs)) ++ gs) ((es ++ fs) ++ (e ∷ gs))
+agree-split s es fs gs e = agree-same s ((es ++ (e ∷ fs)) ++ gs) ((es ++ fs) ++ (e ∷ gs)) (λ d. (there d, back d))
+  where
+    there : (d : Entry) → List·Memᴰ d ((es ++ (e ∷ fs)) ++ gs) → List·Memᴰ d ((es ++ fs) ++ (e ∷ gs))
+    there d m = ⊎-elim (λ a. ⊎-elim (λ b. Memᴰ·append-left (e ∷ gs) (Memᴰ·append-left fs b)) (λ b. ⊎-elim (λ q. Memᴰ·append-right (es ++ fs) (List·Memᴰ·head q)) (λ c. Memᴰ·append-left (e ∷ gs) (Memᴰ·append-right es c)) (List·Memᴰ·cases-cons b)) (List·Memᴰ·append-cases es a))
+        (λ a. Memᴰ·append-right (es ++ fs) (List·Memᴰ·tail a)) (List·Memᴰ·append-cases (es ++ (e ∷ fs)) m)
+
+    back : (d : Entry) → List·Memᴰ d ((es ++ fs) ++ (e ∷ gs)) → List·Memᴰ d ((es ++ (e ∷ fs)) ++ gs)
+    back d m = ⊎-elim (λ a. Memᴰ·append-left gs (mem-insert es e fs a)) (λ a. ⊎-elim (λ q. Memᴰ·append-left gs (Memᴰ·append-right es (List·Memᴰ·head q))) (Memᴰ·append-right (es ++ (e ∷ fs))) (List·Memᴰ·cases-cons a)) (List·Memᴰ·append-cases (es ++ fs) m)

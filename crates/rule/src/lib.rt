@@ -1,0 +1,1 @@
+// No code: the rule that a table and its cursors follow, and its laws.
