@@ -1,3 +1,13 @@
 pub mod Words
 pub mod Readers
 pub mod Entries
+pub mod Nodes
+pub mod Chains
+pub mod Insert
+pub mod Machine
+pub mod SkipSearch
+pub mod Probe
+pub mod Sound
+pub mod Fresh
+pub mod Links
+pub mod Search
