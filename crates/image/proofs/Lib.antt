@@ -11,3 +11,11 @@ pub mod Sound
 pub mod Fresh
 pub mod Links
 pub mod Search
+pub mod Held
+pub mod Write
+pub mod Grow
+pub mod Unique
+pub mod Check
+pub mod Refusals
+pub mod Add
+pub mod BootBench

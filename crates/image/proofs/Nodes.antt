@@ -98,16 +98,19 @@ node-sound xs limit o n b le g = let (m, gm, gn) = bind-got (leadAt xs limit o) 
     end = entryPlace o (word xs o) + word xs (o + 4)
 
     whole : headerSize ≤ o → 1 ≤ h → h ≤ levels → end ≤ limit → (p : Parts) → Fills xs (entryPlace o h) end (entryIn xs p) → NodeHere xs limit o h (entryIn xs p) × (end ≡ o + sizeOf h (entryIn xs p))
-    whole a h1 h2 low p f = (record {
-      after-header = a;
-      height-here = refl;
-      length-here = omega (arith, f .full);
-      height-some = h1;
-      height-most = h2;
-      legal = f .legal;
-      entry-here = f .holds;
-      inside = omega (arith, f .full);
-    }, omega (arith, f .full))
+    whole a h1 h2 low p f = (
+      record {
+        after-header = a;
+        height-here = refl;
+        length-here = omega (arith, f .full);
+        height-some = h1;
+        height-most = h2;
+        legal = f .legal;
+        entry-here = f .holds;
+        inside = omega (arith, f .full);
+      },
+      omega (arith, f .full),
+    )
 
     go : (m : Lead) → LeadSteps xs limit o m → NodeSteps xs m n → NodeHere xs limit o (n .height) (entryIn xs (n .parts)) × (n .end ≡ o + sizeOf (n .height) (entryIn xs (n .parts)))
     go m s t =

@@ -12,3 +12,4 @@ pub mod Add
 pub mod Lookup
 pub mod EntryMoves
 pub mod Check
+pub mod BootBench

@@ -1,0 +1,238 @@
+-- The addition: on a sound image it refuses what is held already, and else appends exactly this entry; on any image it changes only what it names.
+use Prim.Native.Nat.{ℕ, zero, suc, _+_, _-_, _*_, _<_, _≤_}
+use native.Mathlib.Omega.{arith}
+use mathlib.Core.Path.{_≡_, refl, sym, ap, _∙_}
+use mathlib.Core.Logic.{_⊎_, inl, inr, ⊎-elim}
+use mathlib.Core.List.{List, [], _∷_, _++_, List·Memᴰ, List·Memᴰ·append-cases, Memᴰ·append-right}
+use mathlib.Core.Bool.{Bool, true, false, true≢false}
+use lib.ListN.{length, getD}
+use lib.Dec.{ltb, leb}
+use borrow.Author.Tests.{ltb-true, leb-true, le-leb}
+use Rattle.rule.specs.Lists.{both}
+use Rattle.rule.specs.Order.{Ord, equal}
+use Rattle.rule.specs.Entries.{Entry}
+use Rattle.rule.proofs.Lists.{both-true, here}
+use Rattle.rule.proofs.Order.{entries, equal-true}
+use Rattle.image.specs.Limits.{maxKey, maxValue, maxNumber, maxNodes, levels, headerSize}
+use Rattle.image.specs.Words.{Bytes}
+use Rattle.image.specs.Readers.{Read, got, bad}
+use Rattle.image.specs.Entries.{Legal, encode}
+use Rattle.image.specs.Nodes.{count, free, slot, sizeOf, Lead, heightOf, entryOf, linksAt, linkPlace, linkOf}
+use Rattle.image.specs.Sound.{Sound, Header, headerHolds}
+use Rattle.image.specs.Search.{toStop, turnBy, Found, hit, ends, searched}
+use Rattle.image.specs.Refusals.{Refusal, badImage, badKind, badNumber, longKey, longValue, badHeight, noRoom, duplicate, damaged, Answer, refused, given, demand, reading}
+use Rattle.image.specs.Add.{withEntry, Grown, hasRoom, placed, add}
+use Rattle.image.proofs.Refusals.{refused-given, demand-given, demand-damaged, reading-given}
+use Rattle.image.proofs.Entries.{encode-bytes}
+use Rattle.image.proofs.Nodes.{links-node, lead-bounds}
+use Rattle.image.proofs.Chains.{first}
+use Rattle.image.proofs.SkipSearch.{Parted, Right, stopsAt, none-stops}
+use Rattle.image.proofs.Probe.{probe}
+use Rattle.image.proofs.Sound.{header-sound, header-complete, everywhere}
+use Rattle.image.proofs.Search.{isOnward, isHalt, Good, searched-records, searched-good, passTest, stopTest, stop-pass, stop-stop, search-right, splits}
+use Rattle.image.proofs.Write.{written-length, written-kept, written-bytes}
+use Rattle.image.proofs.Grow.{Room, Added, entry-added}
+
+-- arguments that pass every test before the search
+pub record Allowed (e : Entry) (h : ℕ) : Type 0 where
+  pub legal : Legal e
+  pub low : 1 ≤ h
+  pub high : h ≤ levels
+
+pub room-for : (xs : List ℕ) (e : Entry) (h : ℕ) → Allowed e h → hasRoom xs e h ≡ true → Room xs e h
+room-for xs e h a r = let (m, s) = both-true (ltb (count xs) maxNodes) _ r in record {
+  low = a .low;
+  high = a .high;
+  legal = a .legal;
+  more = ltb-true (count xs) maxNodes m;
+  space = leb-true (12 + 4 * h + length (encode e)) (length xs - 4 * count xs - free xs) s;
+}
+
+-- with a good header and such arguments the search decides
+pub add-searches : (xs : List ℕ) (e : Entry) (h : ℕ) → Header xs → Allowed e h → add xs e h ≡ reading (searched xs toStop (e .key) (e .number)) (placed xs e h)
+add-searches xs e h head a = go (headerHolds xs) (header-complete xs head)
+  where
+    go : (t : Bool) → t ≡ true
+        → demand t badImage (demand (leb (e .kind) 1) badKind (demand (leb (e .number) maxNumber) badNumber (demand (leb (length (e .key)) maxKey) longKey (demand (leb (length (e .value)) maxValue) longValue (demand (both (leb 1 h) (leb h levels)) badHeight (reading (searched xs toStop (e .key) (e .number)) (placed xs e h)))))))
+        ≡ reading (searched xs toStop (e .key) (e .number)) (placed xs e h)
+    go t f = rw (
+      f,
+      le-leb (e .kind) 1 (a .legal .kind-known),
+      le-leb (e .number) maxNumber (a .legal .number-low),
+      le-leb (length (e .key)) maxKey (a .legal .key-short),
+      le-leb (length (e .value)) maxValue (a .legal .value-short),
+      le-leb 1 h (a .low),
+      le-leb h levels (a .high),
+    )
+
+-- and an addition that is accepted had them
+pub record Accepted (xs : List ℕ) (e : Entry) (h : ℕ) (g : Grown) : Type 0 where
+  pub header : Header xs
+  pub room : Room xs e h
+  pub recorded : List ℕ
+  pub found : (p : ℕ) × (x : ℕ) × (looks : ℕ) × (searched xs toStop (e .key) (e .number) ≡ got (ends p x looks recorded))
+  pub node-is : g .node ≡ suc (count xs)
+  pub image-is : g .image ≡ withEntry xs e h recorded
+
+pub add-accepted : (xs : List ℕ) (e : Entry) (h : ℕ) (g : Grown) → add xs e h ≡ given g → Accepted xs e h g
+add-accepted xs e h g a =
+    let (c1, a1) = demand-given (headerHolds xs) badImage _ g a in
+    let (c2, a2) = demand-given (leb (e .kind) 1) badKind _ g a1 in
+    let (c3, a3) = demand-given (leb (e .number) maxNumber) badNumber _ g a2 in
+    let (c4, a4) = demand-given (leb (length (e .key)) maxKey) longKey _ g a3 in
+    let (c5, a5) = demand-given (leb (length (e .value)) maxValue) longValue _ g a4 in
+    let (c6, a6) = demand-given (both (leb 1 h) (leb h levels)) badHeight _ g a5 in
+    let (c7, c8) = both-true (leb 1 h) (leb h levels) c6 in
+    let (r, f, a7) = reading-given (searched xs toStop (e .key) (e .number)) (placed xs e h) g a6 in
+    go (header-sound xs c1) (record {
+      legal = record { key-short = leb-true (length (e .key)) maxKey c4; value-short = leb-true (length (e .value)) maxValue c5; number-low = leb-true (e .number) maxNumber c3; kind-known = leb-true (e .kind) 1 c2 };
+      low = leb-true 1 h c7;
+      high = leb-true h levels c8;
+    }) r f a7
+  where
+    same : (x y : Grown) → given x ≡ given y → x ≡ y
+    same x y q = cc
+
+    go : Header xs → Allowed e h → (r : Found) → searched xs toStop (e .key) (e .number) ≡ got r → placed xs e h r ≡ given g → Accepted xs e h g
+    go head ok (hit x looks) f b = absurd (refused-given b)
+    go head ok (ends p x looks prev) f b =
+        let (c, d) = demand-given (hasRoom xs e h) noRoom _ g b in
+        let q = same _ g d in
+        record { header = head; room = room-for xs e h ok c; recorded = prev; found = (p, x, looks, f); node-is = sym (ap (λ (y : Grown). y .node) q); image-is = sym (ap (λ (y : Grown). y .image) q) }
+
+-- ---- on a sound image
+
+-- node x has the key and the number of e
+abbrev pub Duplicates : List ℕ → Entry → ℕ → Type 0
+Duplicates xs e x = ((entryOf xs x) .key ≡ e .key) × ((entryOf xs x) .number ≡ e .number)
+
+module _ (xs : List ℕ) (s : Sound xs) (e : Entry) (h : ℕ) where
+  -- the entry is there already, room or not
+  pub record IsDuplicate : Type 0 where
+    pub node : ℕ
+    pub some : 1 ≤ node
+    pub most : node ≤ count xs
+    pub same : Duplicates xs e node
+    pub looks : ℕ
+    pub found : searched xs toStop (e .key) (e .number) ≡ got (hit node looks)
+
+  -- it is nowhere, and with room it is added behind the nodes that the search recorded
+  pub record IsNew : Type 0 where
+    pub before : ℕ
+    pub after : ℕ
+    pub looks : ℕ
+    pub recorded : List ℕ
+    pub found : searched xs toStop (e .key) (e .number) ≡ got (ends before after looks recorded)
+    pub nowhere : (x : ℕ) → 1 ≤ x → x ≤ count xs → Duplicates xs e x → ⊥
+    pub added : Room xs e h → Added xs e h recorded (withEntry xs e h recorded)
+
+  pub search-decides : IsDuplicate ⊎ IsNew
+  search-decides = let (pre, post, split, p) = splits xs s (e .key) (e .number) toStop in go pre post split p (searched xs toStop (e .key) (e .number)) refl (search-right xs s toStop (e .key) (e .number) pre post split p)
+    where
+      pass : ℕ → Bool
+      pass = passTest xs toStop (e .key) (e .number)
+
+      stop : ℕ → Bool
+      stop = stopTest xs toStop (e .key) (e .number)
+
+      stops-equal : (x : ℕ) → stop x ≡ true → Duplicates xs e x
+      stops-equal x f = let z = entries .eq ((entryOf xs x) .key, (entryOf xs x) .number) (e .key, e .number) (equal-true (probe (entryOf xs) (e .key) (e .number) x) (sym (stop-stop xs (e .key) (e .number) x) ∙ f)) in (ap (λ (t : List ℕ × ℕ). t .0) z, ap (λ (t : List ℕ × ℕ). t .1) z)
+
+      hits : (pre post : List ℕ) → s .sequence ≡ pre ++ post → (x looks : ℕ) → stopsAt stop post ≡ true → x ≡ first post → searched xs toStop (e .key) (e .number) ≡ got (hit x looks) → IsDuplicate ⊎ IsNew
+      hits pre [] split x looks t f a = absurd (true≢false (sym t))
+      hits pre (y ∷ post) split x looks t f a = let b = s .within y (rw split (Memᴰ·append-right pre here)) in inl (record { node = x; some = rw f (b .0); most = rw f (b .1); same = rw f (stops-equal y t); looks = looks; found = a })
+
+      none : (pre post : List ℕ) → s .sequence ≡ pre ++ post → Parted (heightOf xs) pass stop pre post → stopsAt stop post ≡ false → (y : ℕ) → List·Memᴰ y (s .sequence) → Duplicates xs e y → ⊥
+      none pre post split p a y m d = ⊎-elim (λ n. true≢false (sym (p .passes y n) ∙ ap (λ (o : Ord). isOnward (turnBy toStop o)) same))
+          (λ n. true≢false (ap (λ (o : Ord). isHalt (turnBy toStop o)) (sym same) ∙ none-stops (heightOf xs) pass stop pre post p a y n))
+          (List·Memᴰ·append-cases pre (rw split at m))
+        where
+          same : probe (entryOf xs) (e .key) (e .number) y ≡ equal
+          same = rw (d .0, d .1) (entries .same (e .key, e .number))
+
+      go : (pre post : List ℕ) → s .sequence ≡ pre ++ post → Parted (heightOf xs) pass stop pre post → (r : Read Found) → searched xs toStop (e .key) (e .number) ≡ r → Right (levels - 1) (heightOf xs) stop pre post r → IsDuplicate ⊎ IsNew
+      go pre post split p (bad o) f g = absurd g
+      go pre post split p (got (hit x looks)) f g = hits pre post split x looks (g .present) (g .node) f
+      go pre post split p (got (ends u x looks prev)) f g = inr (record {
+        before = u;
+        after = x;
+        looks = looks;
+        recorded = prev;
+        found = f;
+        nowhere = λ y a b d. none pre post split p (g .absent) y (everywhere xs s y a b) d;
+        added = λ room. entry-added xs s e h room prev pre post split (λ l q. g .recorded l (omega (arith, room .high)) (omega (arith, room .high, searched-records xs toStop (e .key) (e .number) (ends u x looks prev) f)))
+            (λ y m. sym (stop-pass xs (e .key) (e .number) y) ∙ p .passes y m) (λ y m. sym (stop-pass xs (e .key) (e .number) y) ∙ p .refuses y m)
+            (λ y m. sym (stop-stop xs (e .key) (e .number) y) ∙ none-stops (heightOf xs) pass stop pre post p (g .absent) y m);
+      })
+
+  -- what an accepted addition comes to
+  pub add-added : (g : Grown) → add xs e h ≡ given g → (prev : List ℕ) × (g .node ≡ suc (count xs)) × Added xs e h prev (g .image)
+  add-added g a = go (add-accepted xs e h g a) search-decides
+    where
+      go : Accepted xs e h g → IsDuplicate ⊎ IsNew → (prev : List ℕ) × (g .node ≡ suc (count xs)) × Added xs e h prev (g .image)
+      go c (inl d) = let (p, x, l, f) = c .found in absurd (let z : _≡_ {A = ℕ} 0 1 = cc (f, d .found) in omega arith)
+      go c (inr d) = let (p, x, l, f) = c .found in let q : c .recorded ≡ d .recorded = cc (f, d .found) in (d .recorded, c .node-is, rw (c .image-is, q) (d .added (c .room)))
+
+  -- a duplicate is refused in a full table too
+  pub add-duplicate : Allowed e h → (x : ℕ) → 1 ≤ x → x ≤ count xs → Duplicates xs e x → add xs e h ≡ refused duplicate
+  add-duplicate ok x p q d = go search-decides
+    where
+      go : IsDuplicate ⊎ IsNew → add xs e h ≡ refused duplicate
+      go (inl c) = add-searches xs e h (s .header) ok ∙ ap (λ (r : Read Found). reading r (placed xs e h)) (c .found)
+      go (inr c) = absurd (c .nowhere x p q d)
+
+  -- and damage is never met
+  pub add-undamaged : add xs e h ≡ refused damaged → ⊥
+  add-undamaged a = go search-decides
+    where
+      other : (r : Found) → placed xs e h r ≡ refused damaged → ⊥
+      other (hit x looks) f = let z : _≡_ {A = ℕ} 0 1 = cc in omega arith
+      other (ends p x looks prev) f = refused-given (sym (demand-damaged (hasRoom xs e h) noRoom _ (λ z. omega arith) f))
+
+      searches : (r : Found) → searched xs toStop (e .key) (e .number) ≡ got r → ⊥
+      searches r f =
+          let a1 = demand-damaged (headerHolds xs) badImage _ (λ z. omega arith) a in
+          let a2 = demand-damaged (leb (e .kind) 1) badKind _ (λ z. omega arith) a1 in
+          let a3 = demand-damaged (leb (e .number) maxNumber) badNumber _ (λ z. omega arith) a2 in
+          let a4 = demand-damaged (leb (length (e .key)) maxKey) longKey _ (λ z. omega arith) a3 in
+          let a5 = demand-damaged (leb (length (e .value)) maxValue) longValue _ (λ z. omega arith) a4 in
+          let a6 = demand-damaged (both (leb 1 h) (leb h levels)) badHeight _ (λ z. omega arith) a5 in
+          other r (rw f at a6)
+
+      go : IsDuplicate ⊎ IsNew → ⊥
+      go (inl c) = searches (hit (c .node) (c .looks)) (c .found)
+      go (inr c) = searches (ends (c .before) (c .after) (c .looks) (c .recorded)) (c .found)
+
+-- ---- on any image
+
+-- a link that a search recorded stands behind the fixed part of the header and before the first free byte
+good-place : (xs : List ℕ) → headerSize ≤ free xs → (x l : ℕ) → l < levels → Good xs x l → (16 ≤ linkPlace xs x l) × (linkPlace xs x l + 4 ≤ free xs)
+good-place xs low x l b (inl e) = (omega (arith, ap (linksAt xs) e), omega (arith, ap (linksAt xs) e))
+good-place xs low x l b (inr (p, q, (m, g, c))) = let d = lead-bounds xs (free xs) (slot xs x) m g in let f = links-node xs x p in (omega arith, omega arith)
+
+-- only n, F, the new node, its slot and at most h links change
+pub record Confined (xs : List ℕ) (e : Entry) (h : ℕ) (prev ys : List ℕ) : Type 0 where
+  pub length-same : length ys ≡ length xs
+  pub places : (l : ℕ) → l < h → (16 ≤ linkPlace xs (getD prev l 0) l) × (linkPlace xs (getD prev l 0) l + 4 ≤ free xs)
+  pub kept : (q : ℕ) → (4 ≤ q → q < 12 → ⊥) → (free xs ≤ q → q < free xs + sizeOf h e → ⊥) → (length xs - 4 * suc (count xs) ≤ q → q < length xs - 4 * count xs → ⊥)
+      → ((l : ℕ) → l < h → linkPlace xs (getD prev l 0) l ≤ q → q < linkPlace xs (getD prev l 0) l + 4 → ⊥) → getD ys q 0 ≡ getD xs q 0
+
+pub add-confined : (xs : List ℕ) (e : Entry) (h : ℕ) (g : Grown) → add xs e h ≡ given g → (prev : List ℕ) × Confined xs e h prev (g .image)
+add-confined xs e h g a = go (add-accepted xs e h g a)
+  where
+    go : Accepted xs e h g → (prev : List ℕ) × Confined xs e h prev (g .image)
+    go c = let prev = c .recorded in let (p, x, l, f) = c .found in let room = c .room in let high = room .high in (
+      prev,
+      rw (c .image-is) (record {
+        length-same = written-length xs (count xs) (free xs) h e (λ l. linkOf xs (getD prev l 0) l) (λ l. linkPlace xs (getD prev l 0) l);
+        places = λ l k. good-place xs (c .header .low) (getD prev l 0) l (omega arith) (searched-good xs toStop (e .key) (e .number) (ends p x _ prev) f l (omega arith));
+        kept = λ q. written-kept xs (count xs) (free xs) h e (λ l. linkOf xs (getD prev l 0) l) (λ l. linkPlace xs (getD prev l 0) l) q (omega (arith, room .space));
+      }),
+    )
+
+-- bytes stay bytes
+pub add-bytes : (xs : List ℕ) (e : Entry) (h : ℕ) (g : Grown) → Bytes (e .key) → Bytes (e .value) → Bytes xs → add xs e h ≡ given g → Bytes (g .image)
+add-bytes xs e h g k v b a = go (add-accepted xs e h g a)
+  where
+    go : Accepted xs e h g → Bytes (g .image)
+    go c = let prev = c .recorded in rw (c .image-is) (written-bytes xs (count xs) (free xs) h e (λ l. linkOf xs (getD prev l 0) l) (λ l. linkPlace xs (getD prev l 0) l) (encode-bytes e (c .room .legal) k v) b)
