@@ -3,3 +3,4 @@ pub mod Order
 pub mod Rows
 pub mod Moves
 pub mod Nearest
+pub mod Worked
