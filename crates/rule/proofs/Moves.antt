@@ -6,7 +6,7 @@ use mathlib.Core.Logic.{⊎-elim}
 use mathlib.Core.List.{List, [], _∷_, _++_, List·Memᴰ, List·Memᴰ·tail, Memᴰ·append-right}
 use mathlib.Core.Bool.{Bool, true, false, not, true≢false, false≢true}
 use Rattle.rule.specs.Lists.{cond, both, Maybe, none, some, isSome, All}
-use Rattle.rule.specs.Order.{Ord, less, compareKeys, compareNumbers, isLess}
+use Rattle.rule.specs.Order.{Ord, less, compareKeys, compareNumbers, compareEntries, isLess}
 use Rattle.rule.specs.Entries.{Entry, order, Ascending, Agree, Single}
 use Rattle.rule.specs.Rows.{newest, shown, row}
 use Rattle.rule.specs.Moves.{earlier, best, below, above, every, Move, first, seek, next, previous, target}
@@ -70,6 +70,7 @@ module _ (cmp : List ℕ → List ℕ → Ord) (o : Order (List ℕ) cmp) (p : L
 
 -- a later entry of an ascending list has no lesser key
 pub later-key : (e f : Entry) → order e f ≡ less → isLess (compareKeys (f .key) (e .key)) ≡ false
+unfolding compareEntries
 later-key e f h = ⊎-elim (λ l. rw (less-greater compareKeys keys (e .key) (f .key) l)) (λ q. rw (keys .eq (e .key) (f .key) (q .0), keys .same (f .key))) (then-less (compareKeys (e .key) (f .key)) (compareNumbers (f .number) (e .number)) h)
 
 -- in an ascending list the least key that may be picked is the first met from the front, and the greatest the first from the back

@@ -96,22 +96,26 @@ then-trans cmp o a b c p q r step h k = go (then-less (cmp a b) p h) (then-less 
     go (inr x) (inr y) = rw (o .eq a b (x .0), y .0, step (x .1) (y .1))
 
 keys-same : (k : List ℕ) → compareKeys k k ≡ equal
+unfolding compareKeys
 keys-same [] = refl
 keys-same (x ∷ xs) = rw (numbers .same x, keys-same xs)
 
 keys-eq : (k l : List ℕ) → compareKeys k l ≡ equal → k ≡ l
+unfolding compareKeys
 keys-eq [] [] e = refl
 keys-eq [] (y ∷ ys) e = cc
 keys-eq (x ∷ xs) [] e = cc
 keys-eq (x ∷ xs) (y ∷ ys) e = let h = then-equal (compareNumbers x y) (compareKeys xs ys) e in rw (numbers .eq x y (h .0), keys-eq xs ys (h .1))
 
 keys-flip : (k l : List ℕ) → compareKeys l k ≡ flip (compareKeys k l)
+unfolding compareKeys
 keys-flip [] [] = refl
 keys-flip [] (y ∷ ys) = refl
 keys-flip (x ∷ xs) [] = refl
 keys-flip (x ∷ xs) (y ∷ ys) = ap₂ then (numbers .flips x y) (keys-flip xs ys) ∙ sym (then-flip (compareNumbers x y) (compareKeys xs ys))
 
 keys-trans : (j k l : List ℕ) → compareKeys j k ≡ less → compareKeys k l ≡ less → compareKeys j l ≡ less
+unfolding compareKeys
 keys-trans [] [] [] p q = cc
 keys-trans [] (y ∷ ys) [] p q = cc
 keys-trans [] [] (z ∷ zs) p q = refl
@@ -128,6 +132,7 @@ abbrev pub comparePairs : (List ℕ × ℕ) → (List ℕ × ℕ) → Ord
 comparePairs e f = compareEntries (e .0) (e .1) (f .0) (f .1)
 
 pub entries : Order (List ℕ × ℕ) comparePairs
+unfolding compareEntries
 entries = record {
   same = λ e. rw (keys .same (e .0), numbers .same (e .1));
   eq = λ e f h. let t = then-equal (compareKeys (e .0) (f .0)) (compareNumbers (f .1) (e .1)) h in λ i. (keys .eq (e .0) (f .0) (t .0) i, sym (numbers .eq (f .1) (e .1) (t .1)) i);
@@ -137,6 +142,7 @@ entries = record {
 
 -- entries of one key are ordered by their numbers, from the top
 pub entries-same-key : (k : List ℕ) (m : ℕ) (l : List ℕ) (n : ℕ) → k ≡ l → compareEntries k m l n ≡ compareNumbers n m
+unfolding compareEntries
 entries-same-key k m l n e = rw (e, keys .same l)
 
 pub entries-less-number : (k : List ℕ) (m : ℕ) (l : List ℕ) (n : ℕ) → k ≡ l → compareEntries k m l n ≡ less → n < m

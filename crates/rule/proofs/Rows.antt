@@ -108,6 +108,7 @@ module _ (k : List ℕ) (s : ℕ) where
   newest-skip lo hi (some e) u (m, g, h) = (Memᴰ·append-right lo m, g, all-append lo hi (λ f n q. absurd (u f n q)) h)
 
   front-newest : (hi : List Entry) → Ascending hi → All (λ e. isLess (compareEntries (e .key) (e .number) k s) ≡ false) hi → Newest k s hi (front k hi)
+  unfolding compareEntries
   front-newest [] a h = all-nil _
   front-newest (e ∷ es) a h = go (compareKeys (e .key) k) refl
     where

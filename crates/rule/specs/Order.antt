@@ -22,14 +22,14 @@ abbrev pub compareNumbers : ℕ → ℕ → Ord
 compareNumbers m n = cond (ltb m n) less (cond (ltb n m) greater equal)
 
 -- user keys ascending by unsigned bytes, a proper prefix first
-abbrev pub compareKeys : List ℕ → List ℕ → Ord
+unfoldable pub compareKeys : List ℕ → List ℕ → Ord
 compareKeys [] [] = equal
 compareKeys [] (y ∷ ys) = less
 compareKeys (x ∷ xs) [] = greater
 compareKeys (x ∷ xs) (y ∷ ys) = then (compareNumbers x y) (compareKeys xs ys)
 
 -- a key with its number: keys ascending, equal keys by number descending; the type plays no part
-abbrev pub compareEntries : List ℕ → ℕ → List ℕ → ℕ → Ord
+unfoldable pub compareEntries : List ℕ → ℕ → List ℕ → ℕ → Ord
 compareEntries k m l n = then (compareKeys k l) (compareNumbers n m)
 
 -- the answer is less
