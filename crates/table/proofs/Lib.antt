@@ -1,3 +1,4 @@
 pub mod Writing
 pub mod Lengths
 pub mod Order
+pub mod EntryBytes

@@ -94,10 +94,10 @@ pub fn put_tag(s: &mut [u8], at: usize, t: Tag)
 }
 
 // How many bytes a length takes.
-pub fn len_size(n: usize) -> usize
-    ensures { λ r. ⌜ (r ≡ length (varint n)) × (r ≤ 2) ⌝ }
+pub fn len_size(len: usize) -> usize
+    ensures { λ r. ⌜ (r ≡ length (varint len)) × (r ≤ 2) ⌝ }
 {
-    if n < 128 { 1 } else { 2 }
+    if len < 128 { 1 } else { 2 }
 }
 
 // Writes a length in its shortest form; answers the place behind it.
@@ -178,10 +178,10 @@ pub fn compare_keys(a: &[u8], b: &[u8]) -> Ordering
         }
         i += 1;
     }
-    if i < b.len() {
-        return Ordering::Less;
+    if i >= b.len() {
+        return Ordering::Equal;
     }
-    Ordering::Equal
+    Ordering::Less
 }
 
 // The key a with the number m beside b with n: keys ascending, numbers of equal keys descending.

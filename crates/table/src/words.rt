@@ -25,12 +25,12 @@ pub fn put_word(s: &mut [u8], o: usize, v: usize)
     requires { ⌜ o + 4 ≤ length (now s) ⌝ }
     ensures { λ _. ⌜ now (s .exit) ≡ putWord (now (s .entry)) o v ⌝ }
 {
-    s[o] = (v % 256) as u8;
     let v1 = v / 256;
-    s[o + 1] = (v1 % 256) as u8;
     let v2 = v1 / 256;
-    s[o + 2] = (v2 % 256) as u8;
     let v3 = v2 / 256;
+    s[o] = (v % 256) as u8;
+    s[o + 1] = (v1 % 256) as u8;
+    s[o + 2] = (v2 % 256) as u8;
     s[o + 3] = (v3 % 256) as u8;
 }
 

@@ -43,10 +43,10 @@ loop-again : tie.Need-loop-again Inv-loop μ-loop
 loop-again c = (search needs, search needs, c .before .before .before .before .before .before .loop .inv .2 ∙ same-byte _ _ _ (c .before .before .before .before .before .loop-test .taken) (c .before .before .before .before .if1 .left) (c .before .if2 .left) (c .if3 .left))
 
 returns-4 : tie.Need-returns-4 Inv-loop μ-loop
-returns-4 c = first-ended _ _ _ (c .before .loop-test .left) (c .if4 .taken) ∙ sym (c .before .before .loop .inv .2)
+returns-4 c = both-ended _ _ _ (c .before .loop-test .left) (c .if4 .taken) ∙ sym (c .before .before .loop .inv .2)
 
 returns-5 : tie.Need-returns-5 Inv-loop μ-loop
-returns-5 c = both-ended _ _ _ (c .before .loop-test .left) (c .if4 .left) ∙ sym (c .before .before .loop .inv .2)
+returns-5 c = first-ended _ _ _ (c .before .loop-test .left) (c .if4 .left) ∙ sym (c .before .before .loop .inv .2)
 
 pub compare-keys-spec : {M : Type 1} → statement M
 compare-keys-spec =
