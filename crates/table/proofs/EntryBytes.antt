@@ -1,7 +1,7 @@
 -- Entries as code writes and reads them: each way out of the code.
-use Prim.Native.Nat.{ℕ, _+_, _-_, _*_, _%_, _<_, _≤_}
+use Prim.Native.Nat.{ℕ, _+_, _-_, _%_, _<_, _≤_}
 use native.Mathlib.Omega.{arith}
-use mathlib.Core.Path.{_≡_, refl, sym, ap, _∙_}
+use mathlib.Core.Path.{_≡_, sym, _∙_}
 use mathlib.Core.List.{List, _++_}
 use mathlib.Core.Bool.{Bool, true, false, not}
 use lib.ListN.{length}
@@ -12,7 +12,7 @@ use Rattle.rule.specs.Entries.{Entry}
 use Rattle.image.specs.Limits.{maxKey, maxValue}
 use Rattle.image.specs.Words.{fixed, bytes}
 use Rattle.image.specs.Readers.{got, bad}
-use Rattle.image.specs.Entries.{varint, tag, encode, Len, lenAt, Keyed, keyedAt, restAt}
+use Rattle.image.specs.Entries.{varint, tag, encode, lenAt, Keyed, keyedAt, restAt}
 use Rattle.image.proofs.Words.{sets-append}
 use Rattle.image.proofs.Entries.{length-encode}
 use Rattle.table.specs.Entries.{EntrySize, Writable}

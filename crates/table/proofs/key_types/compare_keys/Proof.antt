@@ -2,7 +2,6 @@
 use borrow.Author.Needs.{needs}
 use Prim.Native.Nat.{_-_, _≤_}
 use mathlib.Core.Path.{_≡_, sym, _∙_}
-use native.Mathlib.Omega.{arith}
 use lib.ListN.{length}
 use Rattle.rule.specs.Order.{compareKeys}
 use Rattle.table.proofs.Order.{left, left-all, both-ended, first-ended, second-ended, less-byte, greater-byte, same-byte}
