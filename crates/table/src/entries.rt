@@ -15,6 +15,7 @@ use crate::key_types::put_len;
 use crate::key_types::put_tag;
 use crate::words::put_bytes;
 
+// The most bytes of a key, and of a value.
 pub const MAX_KEY: usize = 1024;
 
 pub const MAX_VALUE: usize = 4096;
