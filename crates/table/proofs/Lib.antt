@@ -1,0 +1,5 @@
+pub mod Writing
+pub mod Tags
+pub mod Lengths
+pub mod Order
+pub mod EntryBytes

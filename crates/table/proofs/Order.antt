@@ -1,0 +1,64 @@
+-- Two keys compared byte by byte, and then their numbers: each way out of the code.
+use Prim.Native.Nat.{ℕ, _+_, _<_, _≤_}
+use native.Mathlib.Numerals.{add-one}
+use mathlib.Core.Path.{_≡_, refl}
+use mathlib.Core.List.{List}
+use lib.ListN.{length, getD, drop, drop-of-length-le}
+use lib.Seq.{drop-cons}
+use borrow.Author.Tests.{lt-ltb, le-ltb}
+use Rattle.rule.specs.Order.{Ord, less, equal, greater, compareKeys, compareEntries}
+
+-- what is left to compare of two keys after i bytes
+unfoldable pub left : List ℕ → List ℕ → ℕ → Ord
+left a b i = compareKeys (drop i a) (drop i b)
+
+module _ (a b : List ℕ) where
+  pub left-all : compareKeys a b ≡ left a b 0
+  unfolding left
+  left-all = refl
+
+  module _ (i : ℕ) where
+    pub both-ended : length a ≤ i → length b ≤ i → equal ≡ left a b i
+    unfolding left
+    both-ended h k = rw (drop-of-length-le a h, drop-of-length-le b k)
+
+    pub first-ended : length a ≤ i → i < length b → less ≡ left a b i
+    unfolding left
+    first-ended h k = rw (drop-of-length-le a h, drop-cons b i 0 k)
+
+    pub second-ended : i < length a → length b ≤ i → greater ≡ left a b i
+    unfolding left
+    second-ended h k = rw (drop-cons a i 0 h, drop-of-length-le b k)
+
+    module _ (h : i < length a) (k : i < length b) where
+      pub less-byte : getD a i 0 < getD b i 0 → less ≡ left a b i
+      unfolding left
+      less-byte l = rw (drop-cons a i 0 h, drop-cons b i 0 k, lt-ltb (getD a i 0) (getD b i 0) l)
+
+      module _ (n : getD b i 0 ≤ getD a i 0) where
+        pub greater-byte : getD b i 0 < getD a i 0 → greater ≡ left a b i
+        unfolding left
+        greater-byte l = rw (drop-cons a i 0 h, drop-cons b i 0 k, le-ltb (getD a i 0) (getD b i 0) n, lt-ltb (getD b i 0) (getD a i 0) l)
+
+        pub same-byte : getD a i 0 ≤ getD b i 0 → left a b i ≡ left a b (i + 1)
+        unfolding left
+        same-byte m = rw (add-one i, drop-cons a i 0 h, drop-cons b i 0 k, le-ltb (getD a i 0) (getD b i 0) n, le-ltb (getD b i 0) (getD a i 0) m)
+
+-- the keys decide, or else the numbers do
+module _ (a : List ℕ) (m : ℕ) (b : List ℕ) (n : ℕ) where
+  pub keys-less : less ≡ compareKeys a b → less ≡ compareEntries a m b n
+  keys-less e = rw (← e)
+
+  pub keys-greater : greater ≡ compareKeys a b → greater ≡ compareEntries a m b n
+  keys-greater e = rw (← e)
+
+  module _ (e : equal ≡ compareKeys a b) where
+    pub newer-first : n < m → less ≡ compareEntries a m b n
+    newer-first h = rw (← e, lt-ltb n m h)
+
+    module _ (g : m ≤ n) where
+      pub older-last : m < n → greater ≡ compareEntries a m b n
+      older-last h = rw (← e, le-ltb n m g, lt-ltb m n h)
+
+      pub numbers-same : n ≤ m → equal ≡ compareEntries a m b n
+      numbers-same h = rw (← e, le-ltb n m g, le-ltb m n h)

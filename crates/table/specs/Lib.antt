@@ -1,0 +1,2 @@
+pub mod KeyTypes
+pub mod Entries
