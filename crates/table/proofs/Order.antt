@@ -19,46 +19,51 @@ module _ (a b : List ℕ) where
 
   module _ (i : ℕ) where
     pub both-ended : length a ≤ i → length b ≤ i → equal ≡ left a b i
-    unfolding left
+    unfolding left compareKeys
     both-ended h k = rw (drop-of-length-le a h, drop-of-length-le b k)
 
     pub first-ended : length a ≤ i → i < length b → less ≡ left a b i
-    unfolding left
+    unfolding left compareKeys
     first-ended h k = rw (drop-of-length-le a h, drop-cons b i 0 k)
 
     pub second-ended : i < length a → length b ≤ i → greater ≡ left a b i
-    unfolding left
+    unfolding left compareKeys
     second-ended h k = rw (drop-cons a i 0 h, drop-of-length-le b k)
 
     module _ (h : i < length a) (k : i < length b) where
       pub less-byte : getD a i 0 < getD b i 0 → less ≡ left a b i
-      unfolding left
+      unfolding left compareKeys
       less-byte l = rw (drop-cons a i 0 h, drop-cons b i 0 k, lt-ltb (getD a i 0) (getD b i 0) l)
 
       module _ (n : getD b i 0 ≤ getD a i 0) where
         pub greater-byte : getD b i 0 < getD a i 0 → greater ≡ left a b i
-        unfolding left
+        unfolding left compareKeys
         greater-byte l = rw (drop-cons a i 0 h, drop-cons b i 0 k, le-ltb (getD a i 0) (getD b i 0) n, lt-ltb (getD b i 0) (getD a i 0) l)
 
         pub same-byte : getD a i 0 ≤ getD b i 0 → left a b i ≡ left a b (i + 1)
-        unfolding left
+        unfolding left compareKeys
         same-byte m = rw (add-one i, drop-cons a i 0 h, drop-cons b i 0 k, le-ltb (getD a i 0) (getD b i 0) n, le-ltb (getD b i 0) (getD a i 0) m)
 
 -- the keys decide, or else the numbers do
 module _ (a : List ℕ) (m : ℕ) (b : List ℕ) (n : ℕ) where
   pub keys-less : less ≡ compareKeys a b → less ≡ compareEntries a m b n
+  unfolding compareEntries
   keys-less e = rw (← e)
 
   pub keys-greater : greater ≡ compareKeys a b → greater ≡ compareEntries a m b n
+  unfolding compareEntries
   keys-greater e = rw (← e)
 
   module _ (e : equal ≡ compareKeys a b) where
     pub newer-first : n < m → less ≡ compareEntries a m b n
+    unfolding compareEntries
     newer-first h = rw (← e, lt-ltb n m h)
 
     module _ (g : m ≤ n) where
       pub older-last : m < n → greater ≡ compareEntries a m b n
+      unfolding compareEntries
       older-last h = rw (← e, le-ltb n m g, lt-ltb m n h)
 
       pub numbers-same : n ≤ m → equal ≡ compareEntries a m b n
+      unfolding compareEntries
       numbers-same h = rw (← e, le-ltb n m g, le-ltb m n h)

@@ -17,19 +17,19 @@ enum-told-3 : tie.Need-enum-told-3
 enum-told-3 c = search needs
 
 returns : tie.Need-returns
-returns c = let a = c .before .before .before .before .before .before .args in newer-first (a .a .now) (a .m) (a .b .now) (a .n) (rw (c .before .enum-told3 .given .1) at (c .before .before .before .compare-keys .ensures)) (c .if1 .taken)
+returns c = newer-first _ _ _ _ (rw (c .before .enum-told3 .given .1) at (c .before .before .before .compare-keys .ensures)) (c .if1 .taken)
 
 returns-2 : tie.Need-returns-2
-returns-2 c = let a = c .before .before .before .before .before .before .before .args in older-last (a .a .now) (a .m) (a .b .now) (a .n) (rw (c .before .before .enum-told3 .given .1) at (c .before .before .before .before .compare-keys .ensures)) (c .before .if1 .left) (c .if2 .taken)
+returns-2 c = older-last _ _ _ _ (rw (c .before .before .enum-told3 .given .1) at (c .before .before .before .before .compare-keys .ensures)) (c .before .if1 .left) (c .if2 .taken)
 
 returns-3 : tie.Need-returns-3
-returns-3 c = let a = c .before .before .before .before .before .args in keys-less (a .a .now) (a .m) (a .b .now) (a .n) (rw (c .enum-told .given .1) at (c .before .before .compare-keys .ensures))
+returns-3 c = keys-less _ _ _ _ (rw (c .enum-told .given .1) at (c .before .before .compare-keys .ensures))
 
 returns-4 : tie.Need-returns-4
-returns-4 c = let a = c .before .before .before .before .before .args in keys-greater (a .a .now) (a .m) (a .b .now) (a .n) (rw (c .enum-told2 .given .1) at (c .before .before .compare-keys .ensures))
+returns-4 c = keys-greater _ _ _ _ (rw (c .enum-told2 .given .1) at (c .before .before .compare-keys .ensures))
 
 returns-5 : tie.Need-returns-5
-returns-5 c = let a = c .before .before .before .before .before .before .before .args in numbers-same (a .a .now) (a .m) (a .b .now) (a .n) (rw (c .before .before .enum-told3 .given .1) at (c .before .before .before .before .compare-keys .ensures)) (c .before .if1 .left) (c .if2 .left)
+returns-5 c = numbers-same _ _ _ _ (rw (c .before .before .enum-told3 .given .1) at (c .before .before .before .before .compare-keys .ensures)) (c .before .if1 .left) (c .if2 .left)
 
 pub compare-entries-spec : {M : Type 1} → statement M
 compare-entries-spec =
