@@ -1,0 +1,65 @@
+// Writing to an image: a fresh header, a node in the free part, links. What is written is decided before the first byte is.
+ghost use mathlib.Core.Path.{_≡_};
+ghost use Prim.Native.Nat.{ℕ, _+_, _*_, _<_, _≤_};
+ghost use lib.ListN.{length, getD};
+ghost use Rattle.image.specs.Words.{putWords};
+ghost use Rattle.image.specs.Fresh.{freshImage};
+ghost use Rattle.image.specs.Limits.{headerSize, maxImage};
+ghost use Rattle.image.specs.Add.{nodeWritten};
+ghost use Rattle.table.specs.Entries.{entry};
+ghost use Rattle.table.specs.Insert.{NodeFits};
+use crate::entries::entry_size;
+use crate::entries::put_entry;
+use crate::words::put_bytes;
+use crate::words::put_word;
+
+// Where the links of a node stand, counted from its start.
+const LINK_PLACES: [usize; 12] = [8, 12, 16, 20, 24, 28, 32, 36, 40, 44, 48, 52];
+
+// Writes the header of an empty table: its length, no node, the first free byte behind the header, twelve levels and no links.
+pub fn fresh_header(s: &mut [u8])
+    requires { ⌜ (headerSize ≤ length (now s)) × (length (now s) ≤ maxImage) ⌝ }
+    ensures { λ _. ⌜ now (s .exit) ≡ freshImage (now (s .entry)) ⌝ }
+{
+    let len = s.len();
+    put_word(s, 0, len);
+    put_word(s, 4, 0);
+    put_word(s, 8, 64);
+    put_word(s, 12, 12);
+    let links = [0u8; 48];
+    put_bytes(s, 16, &links);
+}
+
+// Writes a word for each level below the height, each at its place.
+pub fn put_words(s: &mut [u8], places: &[usize; 12], values: &[usize; 12], height: usize)
+    requires { ⌜ height ≤ 12 ⌝ }
+    requires { ⌜ ((l : ℕ) → l < height → getD (now places) l 0 + 4 ≤ length (now s)) ⌝ }
+    ensures { λ _. ⌜ now (s .exit) ≡ putWords (now (s .entry)) (λ l. getD (now (places .entry)) l 0) (λ l. getD (now (values .entry)) l 0) height ⌝ }
+{
+    let mut l = 0;
+    while l < height {
+        put_word(s, places[l], values[l]);
+        l += 1;
+    }
+}
+
+// Writes a node to the front of the free part: height, length of its entry, links, entry.
+pub fn put_node(
+    free: &mut [u8],
+    height: usize,
+    links: &[usize; 12],
+    key: &[u8],
+    number: u64,
+    kind: u8,
+    value: &[u8],
+)
+    requires { ⌜ NodeFits (now free) height (entry (now key) number kind (now value)) ⌝ }
+    ensures { λ _. ⌜ now (free .exit) ≡ nodeWritten (now (free .entry)) 0 height (entry (now (key .entry)) number kind (now (value .entry))) (λ l. getD (now (links .entry)) l 0) ⌝ }
+{
+    let size = entry_size(key.len(), value.len());
+    put_word(free, 0, height);
+    put_word(free, 4, size);
+    let places = LINK_PLACES;
+    put_words(free, &places, links, height);
+    put_entry(free, 8 + 4 * height, key, number, kind, value);
+}
