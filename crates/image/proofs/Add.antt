@@ -8,7 +8,7 @@ use mathlib.Core.Bool.{Bool, true, false, true≢false}
 use lib.ListN.{length, getD}
 use lib.Dec.{ltb, leb}
 use borrow.Author.Tests.{ltb-true, leb-true, le-leb}
-use Rattle.rule.specs.Lists.{both}
+use Rattle.rule.specs.Lists.{both, All}
 use Rattle.rule.specs.Order.{Ord, equal}
 use Rattle.rule.specs.Entries.{Entry}
 use Rattle.rule.proofs.Lists.{both-true, here}
@@ -25,11 +25,9 @@ use Rattle.image.specs.Add.{withEntry, Grown, hasRoom, placed, add}
 use Rattle.image.proofs.Refusals.{refused-given, demand-given, demand-damaged, reading-given}
 use Rattle.image.proofs.Entries.{encode-bytes}
 use Rattle.image.proofs.Nodes.{links-node, lead-bounds}
-use Rattle.image.proofs.Chains.{first}
-use Rattle.image.proofs.SkipSearch.{Parted, Right, stopsAt, none-stops}
 use Rattle.image.proofs.Probe.{probe}
 use Rattle.image.proofs.Sound.{header-sound, header-complete, everywhere}
-use Rattle.image.proofs.Search.{isOnward, isHalt, Good, searched-records, searched-good, passTest, stopTest, stop-pass, stop-stop, search-right, splits}
+use Rattle.image.proofs.Search.{isOnward, isHalt, Good, searched-good, passTest, stopTest, stop-pass, stop-stop, Searched, search-sound}
 use Rattle.image.proofs.Write.{written-length, written-kept, written-bytes}
 use Rattle.image.proofs.Grow.{Room, Added, entry-added}
 
@@ -127,42 +125,36 @@ module _ (xs : List ℕ) (s : Sound xs) (e : Entry) (h : ℕ) where
     pub added : Room xs e h → Added xs e h recorded (withEntry xs e h recorded)
 
   pub search-decides : IsDuplicate ⊎ IsNew
-  search-decides = let (pre, post, split, p) = splits xs s (e .key) (e .number) toStop in go pre post split p (searched xs toStop (e .key) (e .number)) refl (search-right xs s toStop (e .key) (e .number) pre post split p)
+  search-decides = go (search-sound xs s toStop (e .key) (e .number)) ((search-sound xs s toStop (e .key) (e .number)) .found) refl
     where
-      pass : ℕ → Bool
-      pass = passTest xs toStop (e .key) (e .number)
+      k : List ℕ
+      k = e .key
 
-      stop : ℕ → Bool
-      stop = stopTest xs toStop (e .key) (e .number)
+      n : ℕ
+      n = e .number
 
-      stops-equal : (x : ℕ) → stop x ≡ true → Duplicates xs e x
-      stops-equal x f = let z = entries .eq ((entryOf xs x) .key, (entryOf xs x) .number) (e .key, e .number) (equal-true (probe (entryOf xs) (e .key) (e .number) x) (sym (stop-stop xs (e .key) (e .number) x) ∙ f)) in (ap (λ (t : List ℕ × ℕ). t .0) z, ap (λ (t : List ℕ × ℕ). t .1) z)
+      equal-node : (x : ℕ) → stopTest xs toStop k n x ≡ true → Duplicates xs e x
+      equal-node x f = let z = entries .eq ((entryOf xs x) .key, (entryOf xs x) .number) (k, n) (equal-true (probe (entryOf xs) k n x) (sym (stop-stop xs k n x) ∙ f)) in (ap (λ (t : List ℕ × ℕ). t .0) z, ap (λ (t : List ℕ × ℕ). t .1) z)
 
-      hits : (pre post : List ℕ) → s .sequence ≡ pre ++ post → (x looks : ℕ) → stopsAt stop post ≡ true → x ≡ first post → searched xs toStop (e .key) (e .number) ≡ got (hit x looks) → IsDuplicate ⊎ IsNew
-      hits pre [] split x looks t f a = absurd (true≢false (sym t))
-      hits pre (y ∷ post) split x looks t f a = let b = s .within y (rw split (Memᴰ·append-right pre here)) in inl (record { node = x; some = rw f (b .0); most = rw f (b .1); same = rw f (stops-equal y t); looks = looks; found = a })
+      node-equal : (x : ℕ) → Duplicates xs e x → probe (entryOf xs) k n x ≡ equal
+      node-equal x d = rw (d .0, d .1) (entries .same (k, n))
 
-      none : (pre post : List ℕ) → s .sequence ≡ pre ++ post → Parted (heightOf xs) pass stop pre post → stopsAt stop post ≡ false → (y : ℕ) → List·Memᴰ y (s .sequence) → Duplicates xs e y → ⊥
-      none pre post split p a y m d = ⊎-elim (λ n. true≢false (sym (p .passes y n) ∙ ap (λ (o : Ord). isOnward (turnBy toStop o)) same))
-          (λ n. true≢false (ap (λ (o : Ord). isHalt (turnBy toStop o)) (sym same) ∙ none-stops (heightOf xs) pass stop pre post p a y n))
-          (List·Memᴰ·append-cases pre (rw split at m))
-        where
-          same : probe (entryOf xs) (e .key) (e .number) y ≡ equal
-          same = rw (d .0, d .1) (entries .same (e .key, e .number))
+      unequal : (pre post : List ℕ) → All (λ x. passTest xs toStop k n x ≡ true) pre → All (λ x. stopTest xs toStop k n x ≡ false) post → (x : ℕ) → List·Memᴰ x (pre ++ post) → Duplicates xs e x → ⊥
+      unequal pre post p q x m d = ⊎-elim (λ i. true≢false (sym (p x i) ∙ ap (λ (o : Ord). isOnward (turnBy toStop o)) (node-equal x d)))
+          (λ i. true≢false (ap (λ (o : Ord). isHalt (turnBy toStop o)) (sym (node-equal x d)) ∙ q x i)) (List·Memᴰ·append-cases pre m)
 
-      go : (pre post : List ℕ) → s .sequence ≡ pre ++ post → Parted (heightOf xs) pass stop pre post → (r : Read Found) → searched xs toStop (e .key) (e .number) ≡ r → Right (levels - 1) (heightOf xs) stop pre post r → IsDuplicate ⊎ IsNew
-      go pre post split p (bad o) f g = absurd g
-      go pre post split p (got (hit x looks)) f g = hits pre post split x looks (g .present) (g .node) f
-      go pre post split p (got (ends u x looks prev)) f g = inr (record {
+      go : (q : Searched xs s toStop k n) (r : Found) → q .found ≡ r → IsDuplicate ⊎ IsNew
+      go q (hit x looks) f = let (m, t) = q .hits x looks f in let w = s .within x (rw (q .split) (Memᴰ·append-right (q .before) m)) in
+          inl (record { node = x; some = w .0; most = w .1; same = equal-node x t; looks = looks; found = q .search ∙ ap {B = Read Found} got f })
+      go q (ends u x looks prev) f = let m = q .misses u x looks prev f in inr (record {
         before = u;
         after = x;
         looks = looks;
         recorded = prev;
-        found = f;
-        nowhere = λ y a b d. none pre post split p (g .absent) y (everywhere xs s y a b) d;
-        added = λ room. entry-added xs s e h room prev pre post split (λ l q. g .recorded l (omega (arith, room .high)) (omega (arith, room .high, searched-records xs toStop (e .key) (e .number) (ends u x looks prev) f)))
-            (λ y m. sym (stop-pass xs (e .key) (e .number) y) ∙ p .passes y m) (λ y m. sym (stop-pass xs (e .key) (e .number) y) ∙ p .refuses y m)
-            (λ y m. sym (stop-stop xs (e .key) (e .number) y) ∙ none-stops (heightOf xs) pass stop pre post p (g .absent) y m);
+        found = q .search ∙ ap {B = Read Found} got f;
+        nowhere = λ y a b d. unequal (q .before) (q .behind) (q .passes) (m .nothing) y (rw (q .split) at (everywhere xs s y a b)) d;
+        added = λ room. entry-added xs s e h room prev (q .before) (q .behind) (q .split) (λ l i. m .recorded l (omega (arith, room .high)))
+            (λ y i. sym (stop-pass xs k n y) ∙ q .passes y i) (λ y i. sym (stop-pass xs k n y) ∙ q .refuses y i) (λ y i. sym (stop-stop xs k n y) ∙ m .nothing y i);
       })
 
   -- what an accepted addition comes to

@@ -15,16 +15,13 @@ use Rattle.rule.specs.Moves.{Move, target}
 use Rattle.rule.proofs.Rows.{ascending-single, same-newest, front, newest-front}
 use Rattle.rule.proofs.Moves.{same-target}
 use Rattle.rule.proofs.Lists.{here, all-map, pairwise-on, all-left, all-right}
-use Rattle.image.specs.Limits.{levels}
-use Rattle.image.specs.Readers.{Read, got, bad}
-use Rattle.image.specs.Nodes.{count, heightOf, entryOf}
+use Rattle.image.specs.Nodes.{count, entryOf}
 use Rattle.image.specs.Sound.{Sound, heldUpTo, held}
-use Rattle.image.specs.Search.{OnEqual, turnBy, Found, hit, ends, searched, looksOf, standing}
+use Rattle.image.specs.Search.{OnEqual, turnBy, Found, standing}
 use Rattle.image.proofs.Chains.{first}
-use Rattle.image.proofs.SkipSearch.{Parted, Right}
-use Rattle.image.proofs.Probe.{probe, before}
+use Rattle.image.proofs.Probe.{probe}
 use Rattle.image.proofs.Sound.{everywhere, nonzero}
-use Rattle.image.proofs.Search.{isOnward, passTest, stopTest, splits, search-right, searched-looks}
+use Rattle.image.proofs.Search.{isOnward, Searched, search-sound}
 
 held-has : (xs : List ℕ) (n i : ℕ) → 1 ≤ i → i ≤ n → List·Memᴰ (entryOf xs i) (heldUpTo xs n)
 held-has xs zero i p q = absurd (omega arith)
@@ -70,25 +67,19 @@ module _ (xs : List ℕ) (s : Sound xs) where
   pub held-target : (m : Move) (t : ℕ) (c : Maybe (List ℕ)) → target m t c (held xs) ≡ target m t c inOrder
   held-target m t c = sym (same-target m t c inOrder (held xs) (held-agree t) (ascending-single t inOrder ordered))
 
-  -- a search that passes what is less ends before the node of the newest entry, if there is one
-  module _ (mode : OnEqual) (passes-less : (o : Ord) → isOnward (turnBy mode o) ≡ isLess o) (k : List ℕ) (t : ℕ) where
-    stands : (pre post : List ℕ) (r : Read Found) → Right (levels - 1) (heightOf xs) (stopTest xs mode k t) pre post r → (f : Found) × (r ≡ got f) × (standing f ≡ first post)
-    stands pre post (bad o) g = absurd g
-    stands pre post (got (hit x looks)) g = (hit x looks, refl, g .node)
-    stands pre post (got (ends p x looks prev)) g = (ends p x looks prev, refl, g .after)
+  front-is : (k : List ℕ) (post : List ℕ) → All (λ x. x ≢ 0) post → front k (map (entryOf xs) post) ≡ entryIf xs k (first post)
+  front-is k [] z = refl
+  front-is k (zero ∷ post) z = absurd (z 0 here refl)
+  front-is k (suc x ∷ post) z = refl
 
-    front-is : (post : List ℕ) → All (λ x. x ≢ 0) post → front k (map (entryOf xs) post) ≡ entryIf xs k (first post)
-    front-is [] z = refl
-    front-is (zero ∷ post) z = absurd (z 0 here refl)
-    front-is (suc x ∷ post) z = refl
-
-    pub lookup-right : (r : Found) × (searched xs mode k t ≡ got r) × (newest k t (held xs) ≡ entryIf xs k (standing r)) × (looksOf r ≤ count xs + levels)
-    lookup-right = let (pre, post, e, p) = splits xs s k t mode in let (r, f, g) = stands pre post (searched xs mode k t) (search-right xs s mode k t pre post e p) in (r, f, answer pre post e p ∙ ap (entryIf xs k) (sym g), searched-looks xs mode k t r f)
-      where
-        answer : (pre post : List ℕ) → s .sequence ≡ pre ++ post → Parted (heightOf xs) (passTest xs mode k t) (stopTest xs mode k t) pre post → newest k t (held xs) ≡ entryIf xs k (first post)
-        answer pre post e p = held-newest k t ∙ ap (newest k t) halves
-            ∙ newest-front k t (map (entryOf xs) pre) (map (entryOf xs) post) (rw halves at ordered) (all-map (entryOf xs) _ pre (λ x m. sym (passes-less (probe (entryOf xs) k t x)) ∙ p .passes x m)) (all-map (entryOf xs) _ post (λ x m. sym (passes-less (probe (entryOf xs) k t x)) ∙ p .refuses x m))
-            ∙ front-is post (all-right pre post (p .nonzero))
-          where
-            halves : inOrder ≡ map (entryOf xs) pre ++ map (entryOf xs) post
-            halves = ap (map (entryOf xs)) e ∙ map-append (entryOf xs) pre post
+  -- a search that passes what is less stands at the node of the newest entry, if there is one
+  pub lookup-right : (mode : OnEqual) → ((o : Ord) → isOnward (turnBy mode o) ≡ isLess o) → (k : List ℕ) (t : ℕ) → newest k t (held xs) ≡ entryIf xs k (standing ((search-sound xs s mode k t) .found))
+  lookup-right mode passes-less k t = go (search-sound xs s mode k t)
+    where
+      go : (q : Searched xs s mode k t) → newest k t (held xs) ≡ entryIf xs k (standing (q .found))
+      go q = held-newest k t ∙ ap (newest k t) halves
+          ∙ newest-front k t (map (entryOf xs) (q .before)) (map (entryOf xs) (q .behind)) (rw halves at ordered) (all-map (entryOf xs) _ (q .before) (λ x m. sym (passes-less (probe (entryOf xs) k t x)) ∙ q .passes x m)) (all-map (entryOf xs) _ (q .behind) (λ x m. sym (passes-less (probe (entryOf xs) k t x)) ∙ q .refuses x m))
+          ∙ front-is k (q .behind) (all-right (q .before) (q .behind) (rw (q .split) at (nonzero xs s))) ∙ ap (entryIf xs k) (sym (q .stands))
+        where
+          halves : inOrder ≡ map (entryOf xs) (q .before) ++ map (entryOf xs) (q .behind)
+          halves = ap (map (entryOf xs)) (q .split) ∙ map-append (entryOf xs) (q .before) (q .behind)

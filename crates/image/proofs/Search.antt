@@ -14,19 +14,20 @@ use Rattle.rule.specs.Lists.{cond, All, Pairwise}
 use Rattle.rule.specs.Order.{Ord, less, equal, greater, compareEntries, isLess, isEqual}
 use Rattle.rule.specs.Entries.{Entry, order}
 use Rattle.rule.proofs.Order.{entries, comparePairs, less-equal}
-use Rattle.rule.proofs.Lists.{part, pairwise-map}
+use Rattle.rule.proofs.Lists.{here, part, pairwise-map}
 use Rattle.image.specs.Limits.{levels}
 use Rattle.image.specs.Readers.{Read, got, bad, bind, check}
 use Rattle.image.specs.Nodes.{count, free, slot, Lead, leadOf, heightOf, entryOf, linkPlace, linkOf}
+use Rattle.image.specs.Chains.{tall}
 use Rattle.image.specs.Sound.{Sound}
-use Rattle.image.specs.Search.{Turn, onward, halt, below, OnEqual, toStop, toGoDown, toPass, turnBy, Found, hit, ends, ask, meet, look, find, searched, looksOf}
+use Rattle.image.specs.Search.{Turn, onward, halt, below, OnEqual, toStop, toGoDown, toPass, turnBy, Found, hit, ends, ask, meet, look, find, searched, looksOf, standing}
 use Rattle.image.proofs.Readers.{bad-got, got-same, bind-got, check-got}
 use Rattle.image.proofs.Nodes.{lead-read, node-entry}
 use Rattle.image.proofs.Sound.{linked, nonzero, positive}
-use Rattle.image.proofs.Chains.{Linked, link-lands}
+use Rattle.image.proofs.Chains.{first, last, Linked, link-lands}
 use Rattle.image.proofs.Machine.{Keeps, find-keeps, find-looks, Records, find-records}
 use Rattle.image.proofs.SkipSearch as skip
-use Rattle.image.proofs.SkipSearch.{turn, Parted, Right}
+use Rattle.image.proofs.SkipSearch.{turn, Parted, Right, stopsAt, none-stops}
 use Rattle.image.proofs.Probe.{probe, before, exact, probe-parted}
 
 -- the test of a turn
@@ -193,3 +194,52 @@ module _ (xs : List ℕ) (sound : Sound xs) (k : List ℕ) (s : ℕ) where
       never less = refl
       never equal = refl
       never greater = refl
+
+-- ---- what a search on a sound image says, for the layers above
+
+-- a search that ends: nothing equal is there, and it passed and recorded the last nodes before the probe
+pub record Missed (xs : List ℕ) (mode : OnEqual) (k : List ℕ) (s : ℕ) (before behind : List ℕ) (p : ℕ) (prev : List ℕ) : Type 0 where
+  pub nothing : All (λ y. stopTest xs mode k s y ≡ false) behind
+  pub last-passed : p ≡ last 0 before
+  pub recorded : (l : ℕ) → l < levels → getD prev l 0 ≡ last 0 (tall (heightOf xs) l before)
+
+-- the nodes in order are those that it passed and those that it did not, and it stands at the first of these
+pub record Searched (xs : List ℕ) (sound : Sound xs) (mode : OnEqual) (k : List ℕ) (s : ℕ) : Type 0 where
+  pub before : List ℕ
+  pub behind : List ℕ
+  pub split : sound .sequence ≡ before ++ behind
+  pub passes : All (λ x. passTest xs mode k s x ≡ true) before
+  pub refuses : All (λ x. passTest xs mode k s x ≡ false) behind
+  pub found : Found
+  pub search : searched xs mode k s ≡ got found
+  pub stands : standing found ≡ first behind
+  pub hits : (x looks : ℕ) → found ≡ hit x looks → List·Memᴰ x behind × (stopTest xs mode k s x ≡ true)
+  pub misses : (p x looks : ℕ) (prev : List ℕ) → found ≡ ends p x looks prev → Missed xs mode k s before behind p prev
+
+pub search-sound : (xs : List ℕ) (sound : Sound xs) (mode : OnEqual) (k : List ℕ) (s : ℕ) → Searched xs sound mode k s
+search-sound xs sound mode k s = let (pre, post, e, p) = splits xs sound k s mode in go pre post e p (searched xs mode k s) refl (search-right xs sound mode k s pre post e p)
+  where
+    Parts : List ℕ → List ℕ → Type 0
+    Parts pre post = Parted (heightOf xs) (passTest xs mode k s) (stopTest xs mode k s) pre post
+
+    with-answer : (pre post : List ℕ) → sound .sequence ≡ pre ++ post → Parts pre post → (r : Found) → searched xs mode k s ≡ got r → standing r ≡ first post
+        → ((x looks : ℕ) → r ≡ hit x looks → List·Memᴰ x post × (stopTest xs mode k s x ≡ true)) → ((u x looks : ℕ) (prev : List ℕ) → r ≡ ends u x looks prev → Missed xs mode k s pre post u prev) → Searched xs sound mode k s
+    with-answer pre post e p r f g h m = record { before = pre; behind = post; split = e; passes = p .passes; refuses = p .refuses; found = r; search = f; stands = g; hits = h; misses = m }
+
+    stops : (post : List ℕ) (x y : ℕ) → stopsAt (stopTest xs mode k s) post ≡ true → x ≡ first post → x ≡ y → List·Memᴰ y post × (stopTest xs mode k s y ≡ true)
+    stops [] x y t f q = absurd (true≢false (sym t))
+    stops (z ∷ post) x y t f q = rw (← q, f) (here, t)
+
+    go : (pre post : List ℕ) → sound .sequence ≡ pre ++ post → Parts pre post → (r : Read Found) → searched xs mode k s ≡ r → Right (levels - 1) (heightOf xs) (stopTest xs mode k s) pre post r → Searched xs sound mode k s
+    go pre post e p (bad o) f g = absurd g
+    go pre post e p (got (hit x looks)) f g = with-answer pre post e p (hit x looks) f (g .node) (λ y l q. stops post x y (g .present) (g .node) (cc)) (λ u y l prev q. absurd (let z : _≡_ {A = ℕ} 0 1 = cc in omega arith))
+    go pre post e p (got (ends u x looks prev)) f g = with-answer pre post e p (ends u x looks prev) f (g .after) (λ y l q. absurd (let z : _≡_ {A = ℕ} 0 1 = cc in omega arith)) (λ v y l w q.
+        let a : u ≡ v = cc in let b : prev ≡ w = cc in record {
+          nothing = none-stops (heightOf xs) (passTest xs mode k s) (stopTest xs mode k s) pre post p (g .absent);
+          last-passed = rw (← a) (g .before);
+          recorded = λ l h. rw (← b) (g .recorded l (omega arith) (omega (arith, searched-records xs mode k s (ends u x looks prev) f)));
+        })
+
+-- so it never meets damage
+pub search-undamaged : (xs : List ℕ) → Sound xs → (mode : OnEqual) (k : List ℕ) (s : ℕ) → (r : Found) × (searched xs mode k s ≡ got r) × (looksOf r ≤ count xs + levels)
+search-undamaged xs sound mode k s = let q = search-sound xs sound mode k s in (q .found, q .search, searched-looks xs mode k s (q .found) (q .search))
