@@ -1,6 +1,7 @@
 -- The entries that an image holds, by arrival and by order; and what a search says of them.
 use Prim.Native.Nat.{ℕ, zero, suc, _+_, _-_, _≤_}
 use native.Mathlib.Omega.{arith}
+use native.Mathlib.Nat.{le-refl}
 use native.Mathlib.Decide.{ℕ-discrete}
 use mathlib.Core.Path.{_≡_, refl, sym, ap, _∙_}
 use mathlib.Core.Logic.{_⊎_, inl, inr, ⊎-elim, _≢_}
@@ -23,7 +24,8 @@ use Rattle.image.proofs.Probe.{probe}
 use Rattle.image.proofs.Sound.{everywhere, nonzero}
 use Rattle.image.proofs.Search.{isOnward, Searched, search-sound}
 
-held-has : (xs : List ℕ) (n i : ℕ) → 1 ≤ i → i ≤ n → List·Memᴰ (entryOf xs i) (heldUpTo xs n)
+-- the entry of each node is held, and what is held is the entry of a node
+pub held-has : (xs : List ℕ) (n i : ℕ) → 1 ≤ i → i ≤ n → List·Memᴰ (entryOf xs i) (heldUpTo xs n)
 held-has xs zero i p q = absurd (omega arith)
 held-has xs (suc n) i p q = go (ℕ-discrete i (suc n)) (held-has xs n i p)
   where
@@ -31,7 +33,7 @@ held-has xs (suc n) i p q = go (ℕ-discrete i (suc n)) (held-has xs n i p)
     go (yes e) ih = Memᴰ·append-right (heldUpTo xs n) (List·Memᴰ·head (ap (entryOf xs) e))
     go (no z) ih = Memᴰ·append-left (entryOf xs (suc n) ∷ []) (ih (omega arith))
 
-held-from : (xs : List ℕ) (n : ℕ) (e : Entry) → List·Memᴰ e (heldUpTo xs n) → (i : ℕ) × (1 ≤ i) × (i ≤ n) × (entryOf xs i ≡ e)
+pub held-from : (xs : List ℕ) (n : ℕ) (e : Entry) → List·Memᴰ e (heldUpTo xs n) → (i : ℕ) × (1 ≤ i) × (i ≤ n) × (entryOf xs i ≡ e)
 held-from xs zero e m = absurd (List·Memᴰ·not-nil m)
 held-from xs (suc n) e m = go (held-from xs n e) (List·Memᴰ·append-cases (heldUpTo xs n) m)
   where
@@ -83,3 +85,7 @@ module _ (xs : List ℕ) (s : Sound xs) where
         where
           halves : inOrder ≡ map (entryOf xs) (q .before) ++ map (entryOf xs) (q .behind)
           halves = ap (map (entryOf xs)) (q .split) ∙ map-append (entryOf xs) (q .before) (q .behind)
+
+-- no two entries held have one key and number
+pub held-single : (xs : List ℕ) → Sound xs → (e f : Entry) → List·Memᴰ e (held xs) → List·Memᴰ f (held xs) → e .key ≡ f .key → e .number ≡ f .number → e ≡ f
+held-single xs s e f m n p q = ascending-single (e .number) (inOrder xs s) (ordered xs s) e f ((held-agree xs s (e .number) e (le-refl _)) .1 m) ((held-agree xs s (e .number) f (rw q (le-refl _))) .1 n) (le-refl _) p q

@@ -19,3 +19,5 @@ pub mod Check
 pub mod Refusals
 pub mod Add
 pub mod BootBench
+pub mod Lookup
+pub mod EntryMoves

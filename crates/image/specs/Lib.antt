@@ -11,5 +11,6 @@ pub mod Fresh
 pub mod Add
 pub mod Lookup
 pub mod EntryMoves
+pub mod Meaning
 pub mod Check
 pub mod BootBench
