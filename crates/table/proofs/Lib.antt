@@ -3,3 +3,4 @@ pub mod Tags
 pub mod Lengths
 pub mod Order
 pub mod EntryBytes
+pub mod NodeBytes
