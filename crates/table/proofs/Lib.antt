@@ -4,3 +4,4 @@ pub mod Lengths
 pub mod Order
 pub mod EntryBytes
 pub mod Insertion
+pub mod NodeBytes

@@ -1,0 +1,47 @@
+-- `nodes::node_at`: the lead, and behind it the rest of the entry.
+use Rattle.table.proofs.NodeBytes.{lead-inside, node-bad, node-cut, node-whole}
+use native.Mathlib.Omega.{arith}
+use borrow.Author.Needs.{needs}
+use Rattle.table.proofs.nodes.node_at.Statement.{statement}
+use Rattle.table.proofs.nodes.node_at.Tie as tie
+
+lead-at-requires : tie.Need-lead-at-requires
+lead-at-requires c κs = search needs
+
+enum-known-lead : tie.Need-enum-known-lead
+enum-known-lead c = search needs
+
+enum-known-lead-2 : tie.Need-enum-known-lead-2
+enum-known-lead-2 c = search needs
+
+rest-at-requires : tie.Need-rest-at-requires
+rest-at-requires c κs = let i = lead-inside _ _ _ (c .before .before .before .before .before .pre .0) (rw (c .before .lead2 .given .1) at (c .before .before .before .lead-at .ensures)) in omega arith
+
+enum-known-rest : tie.Need-enum-known-rest
+enum-known-rest c = search needs
+
+enum-known-rest-2 : tie.Need-enum-known-rest-2
+enum-known-rest-2 c = search needs
+
+returns : tie.Need-returns
+returns c = node-bad _ (rw (c .before .lead .given .1) at (c .before .before .before .lead-at .ensures))
+
+returns-2 : tie.Need-returns-2
+returns-2 c = node-cut _ (rw (c .before .before .before .before .before .lead2 .given .1) at (c .before .before .before .before .before .before .before .lead-at .ensures)) (rw (c .before .rest .given .1) at (c .before .before .before .rest-at .ensures .0))
+
+returns-3 : tie.Need-returns-3
+returns-3 c = node-whole _ (rw (c .before .before .before .before .before .lead2 .given .1) at (c .before .before .before .before .before .before .before .lead-at .ensures)) (rw (c .before .rest2 .given .1) at (c .before .before .before .rest-at .ensures .0))
+
+pub node-at-spec : {M : Type 1} → statement M
+node-at-spec =
+    tie.close
+    (tie.spec
+    lead-at-requires
+    enum-known-lead
+    enum-known-lead-2
+    rest-at-requires
+    enum-known-rest
+    enum-known-rest-2
+    returns
+    returns-2
+    returns-3)

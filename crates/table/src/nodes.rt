@@ -1,0 +1,205 @@
+// Header and nodes of an image, read.
+// An image is a header, then nodes from 64 up to the first free byte, then free bytes, and from the end downwards one slot for
+// each node with its offset. Nothing here writes; what is read is trusted no further than the bytes before it show.
+ghost use mathlib.Core.Path.{_≡_};
+ghost use Prim.Native.Nat.{_*_, _<_, _≤_};
+ghost use lib.ListN.{length};
+ghost use Rattle.image.specs.Limits.{headerSize};
+ghost use Rattle.image.specs.Readers.{bind};
+ghost use Rattle.image.specs.Nodes.{count, free, slot, leadAt, nodeFrom, leadOf, nodeAt, linksAt, linkOf};
+ghost use Rattle.image.specs.Sound.{headerHolds};
+ghost use Rattle.table.specs.Nodes.{leadRead, nodeRead, Numbered, LinkInside};
+use crate::entries::Keyed;
+use crate::entries::KeyedRead;
+use crate::entries::Parts;
+use crate::entries::PartsRead;
+use crate::entries::keyed_at;
+use crate::entries::rest_at;
+use crate::words::get_word;
+
+// Bytes of the header; no image is shorter, and the first node starts behind it.
+pub const HEADER_SIZE: usize = 64;
+
+// The most bytes of an image.
+pub const MAX_IMAGE: usize = 65536;
+
+// The most nodes of an image.
+pub const MAX_NODES: usize = 4096;
+
+// Levels of links, which is also the height of the tallest node.
+pub const LEVELS: usize = 12;
+
+// Where the links of the head stand in the header.
+pub const HEAD_LINKS: usize = 16;
+
+// Whether the header holds: length, levels, count and first free byte are each within their limits.
+pub fn header_holds(s: &[u8]) -> bool
+    ensures { λ r. ⌜ r ≡ headerHolds (now (s .entry)) ⌝ }
+{
+    if s.len() < HEADER_SIZE {
+        return false;
+    }
+    if s.len() > MAX_IMAGE {
+        return false;
+    }
+    if get_word(s, 0) != s.len() {
+        return false;
+    }
+    if get_word(s, 12) != LEVELS {
+        return false;
+    }
+    let n = count(s);
+    if n > MAX_NODES {
+        return false;
+    }
+    let used = free(s);
+    if used < HEADER_SIZE {
+        return false;
+    }
+    used + 4 * n <= s.len()
+}
+
+// The node count.
+pub fn count(s: &[u8]) -> usize
+    requires { ⌜ headerSize ≤ length (now s) ⌝ }
+    ensures { λ r. ⌜ (r ≡ count (now (s .entry))) × (r < 4294967296) ⌝ }
+{
+    get_word(s, 4)
+}
+
+// The first free byte.
+pub fn free(s: &[u8]) -> usize
+    requires { ⌜ headerSize ≤ length (now s) ⌝ }
+    ensures { λ r. ⌜ (r ≡ free (now (s .entry))) × (r < 4294967296) ⌝ }
+{
+    get_word(s, 8)
+}
+
+// What slot i holds, the offset of node i.
+pub fn slot(s: &[u8], i: usize) -> usize
+    requires { ⌜ (1 ≤ i) × (4 * i ≤ length (now s)) ⌝ }
+    ensures { λ r. ⌜ (r ≡ slot (now (s .entry)) i) × (r < 4294967296) ⌝ }
+{
+    get_word(s, s.len() - 4 * i)
+}
+
+// What leads a node: its height, where its key stands, its tag, and where it ends.
+pub struct Lead {
+    pub start: usize,
+    pub height: usize,
+    pub keyed: Keyed,
+    pub end: usize,
+}
+
+// The lead of a node, or the place of the byte at fault.
+pub enum LeadRead {
+    Got(Lead),
+    Bad(usize),
+}
+
+// The lead of the node that starts at o and ends at the limit or before.
+pub fn lead_at(s: &[u8], limit: usize, o: usize) -> LeadRead
+    requires { ⌜ (limit ≤ length (now s)) × (o < 4294967296) ⌝ }
+    ensures { λ r. ⌜ leadRead r ≡ leadAt (now (s .entry)) limit o ⌝ }
+{
+    if o < HEADER_SIZE {
+        return LeadRead::Bad(o);
+    }
+    if o + 8 > limit {
+        return LeadRead::Bad(o);
+    }
+    let height = get_word(s, o);
+    if height < 1 {
+        return LeadRead::Bad(o);
+    }
+    if height > LEVELS {
+        return LeadRead::Bad(o);
+    }
+    let entry = o + 8 + 4 * height;
+    let end = entry + get_word(s, o + 4);
+    if end > limit {
+        return LeadRead::Bad(o);
+    }
+    let keyed = keyed_at(s, entry, end);
+    match keyed {
+        KeyedRead::Bad(fault) => LeadRead::Bad(fault),
+        KeyedRead::Got(k) => LeadRead::Got(Lead {
+            start: o,
+            height: height,
+            keyed: k,
+            end: end,
+        }),
+    }
+}
+
+// A whole node.
+pub struct Node {
+    pub start: usize,
+    pub height: usize,
+    pub parts: Parts,
+    pub end: usize,
+}
+
+// A node, or the place of the byte at fault.
+pub enum NodeRead {
+    Got(Node),
+    Bad(usize),
+}
+
+// The node that starts at o and ends at the limit or before: its lead, then its type and its value.
+pub fn node_at(s: &[u8], limit: usize, o: usize) -> NodeRead
+    requires { ⌜ (limit ≤ length (now s)) × (o < 4294967296) ⌝ }
+    ensures { λ r. ⌜ nodeRead r ≡ bind (leadAt (now (s .entry)) limit o) (nodeFrom (now (s .entry))) ⌝ }
+{
+    let lead = lead_at(s, limit, o);
+    match lead {
+        LeadRead::Bad(fault) => NodeRead::Bad(fault),
+        LeadRead::Got(m) => {
+            let rest = rest_at(s, m.end, m.keyed);
+            match rest {
+                PartsRead::Bad(fault) => NodeRead::Bad(fault),
+                PartsRead::Got(p) => NodeRead::Got(Node {
+                    start: m.start,
+                    height: m.height,
+                    parts: p,
+                    end: m.end,
+                }),
+            }
+        }
+    }
+}
+
+// The lead of node i.
+pub fn lead_of(s: &[u8], i: usize) -> LeadRead
+    requires { ⌜ Numbered (now s) i ⌝ }
+    ensures { λ r. ⌜ leadRead r ≡ leadOf (now (s .entry)) i ⌝ }
+{
+    lead_at(s, free(s), slot(s, i))
+}
+
+// Node i.
+pub fn node_of(s: &[u8], i: usize) -> NodeRead
+    requires { ⌜ Numbered (now s) i ⌝ }
+    ensures { λ r. ⌜ nodeRead r ≡ nodeAt (now (s .entry)) i ⌝ }
+{
+    node_at(s, free(s), slot(s, i))
+}
+
+// Where the links of node i start; node 0 is the head, whose links stand in the header.
+pub fn links_at(s: &[u8], i: usize) -> usize
+    requires { ⌜ 4 * i ≤ length (now s) ⌝ }
+    ensures { λ r. ⌜ (r ≡ linksAt (now (s .entry)) i) × (r < 4294967304) ⌝ }
+{
+    if i < 1 {
+        return HEAD_LINKS;
+    }
+    slot(s, i) + 8
+}
+
+// The link of node i, or of the head, at a level: a node number, 0 for none.
+pub fn link_of(s: &[u8], i: usize, level: usize) -> usize
+    requires { ⌜ LinkInside (now s) i level ⌝ }
+    ensures { λ r. ⌜ (r ≡ linkOf (now (s .entry)) i level) × (r < 4294967296) ⌝ }
+{
+    get_word(s, links_at(s, i) + 4 * level)
+}
