@@ -5,11 +5,16 @@ ghost use lib.ListN.{length, getD};
 ghost use Rattle.image.specs.Words.{putWords};
 ghost use Rattle.image.specs.Fresh.{freshImage};
 ghost use Rattle.image.specs.Limits.{headerSize, maxImage};
-ghost use Rattle.image.specs.Add.{nodeWritten};
+ghost use Rattle.image.specs.Nodes.{count};
+ghost use Rattle.image.specs.Add.{nodeWritten, withEntry};
 ghost use Rattle.table.specs.Entries.{entry};
-ghost use Rattle.table.specs.Insert.{NodeFits};
+ghost use Rattle.table.specs.Insert.{NodeFits, Joinable, Joined, EntryFits};
 use crate::entries::entry_size;
 use crate::entries::put_entry;
+use crate::nodes::count;
+use crate::nodes::free;
+use crate::nodes::links_at;
+use crate::words::get_word;
 use crate::words::put_bytes;
 use crate::words::put_word;
 
@@ -62,4 +67,61 @@ pub fn put_node(
     let places = LINK_PLACES;
     put_words(free, &places, links, height);
     put_entry(free, 8 + 4 * height, key, number, kind, value);
+}
+
+// The links that are to lead to a new node: where each stands, and what it holds.
+pub struct Joins {
+    pub places: [usize; 12],
+    pub links: [usize; 12],
+}
+
+// The links at each level below the height of the nodes that a search recorded.
+pub fn find_joins(s: &[u8], prev: [usize; 12], height: usize) -> Joins
+    requires { ⌜ Joinable (now s) prev height ⌝ }
+    ensures { λ r. ⌜ Joined (now (s .entry)) prev height r ⌝ }
+{
+    let mut places = [0usize; 12];
+    let mut links = [0usize; 12];
+    let mut l = 0;
+    while l < height {
+        let node = prev[l];
+        let place = links_at(s, node) + 4 * l;
+        places[l] = place;
+        links[l] = get_word(s, place);
+        l += 1;
+    }
+    Joins {
+        places: places,
+        links: links,
+    }
+}
+
+// Puts an entry in behind the nodes that a search recorded: its node at the first free byte, its slot, the links to it, and
+// then the count and the first free byte. Answers the node's number.
+pub fn put_in(
+    s: &mut [u8],
+    prev: [usize; 12],
+    key: &[u8],
+    number: u64,
+    kind: u8,
+    value: &[u8],
+    height: usize,
+) -> usize
+    requires { ⌜ EntryFits (now s) prev height (entry (now key) number kind (now value)) ⌝ }
+    ensures { λ r. ⌜ (r ≡ count (now (s .entry)) + 1) × (now (s .exit) ≡ withEntry (now (s .entry)) (entry (now (key .entry)) number kind (now (value .entry))) height prev) ⌝ }
+{
+    let join = find_joins(s, prev, height);
+    let places = join.places;
+    let links = join.links;
+    let used = free(s);
+    let node = count(s) + 1;
+    let end = used + 8 + 4 * height + entry_size(key.len(), value.len());
+    let len = s.len();
+    put_node(&mut s[used..], height, &links, key, number, kind, value);
+    put_word(s, len - 4 * node, used);
+    let nodes = [node; 12];
+    put_words(s, &places, &nodes, height);
+    put_word(s, 4, node);
+    put_word(s, 8, end);
+    node
 }
