@@ -198,7 +198,7 @@ module _ (xs : List ℕ) (s : Sound xs) (e : Entry) (h : ℕ) where
 -- ---- on any image
 
 -- a link that a search recorded stands behind the fixed part of the header and before the first free byte
-good-place : (xs : List ℕ) → headerSize ≤ free xs → (x l : ℕ) → l < levels → Good xs x l → (16 ≤ linkPlace xs x l) × (linkPlace xs x l + 4 ≤ free xs)
+pub good-place : (xs : List ℕ) → headerSize ≤ free xs → (x l : ℕ) → l < levels → Good xs x l → (16 ≤ linkPlace xs x l) × (linkPlace xs x l + 4 ≤ free xs)
 good-place xs low x l b (inl e) = (omega (arith, ap (linksAt xs) e), omega (arith, ap (linksAt xs) e))
 good-place xs low x l b (inr (p, q, (m, g, c))) = let d = lead-bounds xs (free xs) (slot xs x) m g in let f = links-node xs x p in (omega arith, omega arith)
 
