@@ -4,3 +4,5 @@ pub mod Lengths
 pub mod Order
 pub mod EntryBytes
 pub mod NodeBytes
+pub mod Looking
+pub mod Spots

@@ -1,3 +1,4 @@
 pub mod KeyTypes
 pub mod Entries
 pub mod Nodes
+pub mod Skipmap

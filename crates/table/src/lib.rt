@@ -3,3 +3,4 @@ pub mod words; // words.rt: the u32 words of an image, and bytes written to it
 pub mod key_types; // key_types.rt: number, tag, lengths and order
 pub mod entries; // entries.rt: the bytes of an entry
 pub mod nodes; // nodes.rt: header and nodes of an image
+pub mod skipmap; // skipmap.rt: the search
