@@ -6,3 +6,5 @@ pub mod EntryBytes
 pub mod Insertion
 pub mod NodeBytes
 pub mod Parts
+pub mod Looking
+pub mod Spots
