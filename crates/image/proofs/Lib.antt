@@ -21,3 +21,4 @@ pub mod Add
 pub mod BootBench
 pub mod Lookup
 pub mod EntryMoves
+pub mod Spots

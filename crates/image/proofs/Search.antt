@@ -20,7 +20,7 @@ use Rattle.image.specs.Readers.{Read, got, bad, bind, check}
 use Rattle.image.specs.Nodes.{count, free, slot, Lead, leadOf, heightOf, entryOf, linkPlace, linkOf}
 use Rattle.image.specs.Chains.{tall}
 use Rattle.image.specs.Sound.{Sound}
-use Rattle.image.specs.Search.{Turn, onward, halt, below, OnEqual, toStop, toGoDown, toPass, turnBy, Found, hit, ends, ask, meet, look, find, searched, looksOf, standing, passed}
+use Rattle.image.specs.Search.{Turn, onward, halt, below, OnEqual, toStop, toGoDown, toPass, turnBy, Found, hit, ends, ask, meet, look, find, searched, looksOf, standing}
 use Rattle.image.proofs.Readers.{bad-got, got-same, bind-got, check-got}
 use Rattle.image.proofs.Nodes.{lead-read, node-entry}
 use Rattle.image.proofs.Sound.{linked, nonzero, positive}
@@ -95,20 +95,6 @@ module _ (xs : List ℕ) (mode : OnEqual) (k : List ℕ) (s : ℕ) where
     lowering = λ n cur low looks prev f t. record { wide = length-set prev (suc low) cur ∙ t .wide; here = good-lower xs cur (suc low) low (omega arith) (t .here); above = λ l a b. record-good cur (suc low) prev t l (omega arith) b };
     ending = λ n cur looks prev f t l b. record-good cur 0 prev t l (omega arith) b;
   }) (count xs + levels) 0 (levels - 1) 0 (replicate levels 0) r (record { wide = refl; here = inl refl; above = λ l a b. absurd (omega arith) }) e
-
--- the nodes that a search answers are nodes of the table, or none
-module _ (xs : List ℕ) (mode : OnEqual) (k : List ℕ) (s : ℕ) where
-  look-within : (cur level : ℕ) (d : Turn) → look xs mode k s cur level ≡ got d → linkOf xs cur level ≤ count xs
-  unfolding look
-  look-within cur level d e = leb-true (linkOf xs cur level) (count xs) ((check-got (leb (linkOf xs cur level) (count xs)) (linkPlace xs cur level) (meet xs mode k s level (linkPlace xs cur level) (linkOf xs cur level)) d e) .0)
-
-  pub searched-within : (r : Found) → searched xs mode k s ≡ got r → (standing r ≤ count xs) × (passed r ≤ count xs)
-  searched-within r e = find-keeps (look xs mode k s) (linkOf xs) (linkPlace xs) (λ n cur level looks prev. cur ≤ count xs) (λ f. (standing f ≤ count xs) × (passed f ≤ count xs)) (record {
-    passing = λ n cur level looks prev f h. look-within cur level onward f;
-    stopping = λ n cur level looks prev f h. (look-within cur level halt f, omega arith);
-    lowering = λ n cur low looks prev f h. h;
-    ending = λ n cur looks prev f h. (look-within cur 0 below f, h);
-  }) (count xs + levels) 0 (levels - 1) 0 (replicate levels 0) r (omega arith) e
 
 -- ---- on a sound image
 

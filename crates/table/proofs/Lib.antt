@@ -7,4 +7,3 @@ pub mod Insertion
 pub mod NodeBytes
 pub mod Parts
 pub mod Looking
-pub mod Spots
