@@ -7,3 +7,4 @@ pub mod Insertion
 pub mod NodeBytes
 pub mod Parts
 pub mod Looking
+pub mod Inserting

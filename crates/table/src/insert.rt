@@ -8,12 +8,16 @@ ghost use Rattle.image.specs.Limits.{headerSize, maxImage};
 ghost use Rattle.image.specs.Nodes.{count};
 ghost use Rattle.image.specs.Add.{nodeWritten, withEntry};
 ghost use Rattle.table.specs.Entries.{entry};
-ghost use Rattle.table.specs.Insert.{NodeFits, Joinable, Joined, EntryFits};
+ghost use Rattle.table.specs.Insert.{NodeFits, Joinable, Joined, EntryFits, Sized, RoomIs, Insertable, Inserts};
 use crate::entries::entry_size;
 use crate::entries::put_entry;
+use crate::nodes::MAX_NODES;
 use crate::nodes::count;
 use crate::nodes::free;
 use crate::nodes::links_at;
+use crate::skipmap::OnEqual;
+use crate::skipmap::Spot;
+use crate::skipmap::search;
 use crate::words::get_word;
 use crate::words::put_bytes;
 use crate::words::put_word;
@@ -124,4 +128,56 @@ pub fn put_in(
     put_word(s, 4, node);
     put_word(s, 8, end);
     node
+}
+
+// Whether one more node of this height fits, whose key and value have these lengths.
+pub fn has_room(s: &[u8], key_len: usize, value_len: usize, height: usize) -> bool
+    requires { ⌜ Sized (now s) «key_len» «value_len» height ⌝ }
+    ensures { λ r. ⌜ RoomIs (now (s .entry)) «key_len» «value_len» height r ⌝ }
+{
+    let n = count(s);
+    if n >= MAX_NODES {
+        return false;
+    }
+    let need = 12 + 4 * height + entry_size(key_len, value_len);
+    need <= s.len() - 4 * n - free(s)
+}
+
+// What an insertion answers: the new node's number, or why nothing was written.
+pub enum Inserted {
+    At(usize),
+    Duplicate,
+    Full,
+    Damaged,
+}
+
+// Looks for the entry's key and number, and where they are not there puts the entry in. An equal entry is a duplicate, room or not.
+pub fn insert(
+    s: &mut [u8],
+    key: &[u8],
+    number: u64,
+    kind: u8,
+    value: &[u8],
+    height: usize,
+) -> Inserted
+    requires { ⌜ Insertable (now s) (entry (now key) number kind (now value)) height ⌝ }
+    ensures { λ r. ⌜ Inserts (now (s .entry)) (entry (now (key .entry)) number kind (now (value .entry))) height r (now (s .exit)) ⌝ }
+{
+    let found = search(s, OnEqual::Stop, key, number);
+    let spot = found.spot;
+    match spot {
+        Spot::Bad(_) => Inserted::Damaged,
+        Spot::Hit { node: _, looks: _ } => Inserted::Duplicate,
+        Spot::Ends {
+            before: _,
+            after: _,
+            looks: _,
+        } => {
+            if !has_room(s, key.len(), value.len(), height) {
+                return Inserted::Full;
+            }
+            let prev = found.prev;
+            Inserted::At(put_in(s, prev, key, number, kind, value, height))
+        }
+    }
 }
