@@ -48,13 +48,10 @@ room-for xs e h a r = let (m, s) = both-true (ltb (count xs) maxNodes) _ r in re
 
 -- with a good header and such arguments the search decides
 pub add-searches : (xs : List ℕ) (e : Entry) (h : ℕ) → Header xs → Allowed e h → add xs e h ≡ reading (searched xs toStop (e .key) (e .number)) (placed xs e h)
-add-searches xs e h head a = go (headerHolds xs) (header-complete xs head)
-  where
-    go : (t : Bool) → t ≡ true
-        → demand t badImage (demand (leb (e .kind) 1) badKind (demand (leb (e .number) maxNumber) badNumber (demand (leb (length (e .key)) maxKey) longKey (demand (leb (length (e .value)) maxValue) longValue (demand (both (leb 1 h) (leb h levels)) badHeight (reading (searched xs toStop (e .key) (e .number)) (placed xs e h)))))))
-        ≡ reading (searched xs toStop (e .key) (e .number)) (placed xs e h)
-    go t f = rw (
-      f,
+unfolding add
+add-searches xs e h head a =
+    rw (
+      header-complete xs head,
       le-leb (e .kind) 1 (a .legal .kind-known),
       le-leb (e .number) maxNumber (a .legal .number-low),
       le-leb (length (e .key)) maxKey (a .legal .key-short),
@@ -73,6 +70,7 @@ pub record Accepted (xs : List ℕ) (e : Entry) (h : ℕ) (g : Grown) : Type 0 w
   pub image-is : g .image ≡ withEntry xs e h recorded
 
 pub add-accepted : (xs : List ℕ) (e : Entry) (h : ℕ) (g : Grown) → add xs e h ≡ given g → Accepted xs e h g
+unfolding add
 add-accepted xs e h g a =
     let (c1, a1) = demand-given (headerHolds xs) badImage _ g a in
     let (c2, a2) = demand-given (leb (e .kind) 1) badKind _ g a1 in
@@ -175,6 +173,7 @@ module _ (xs : List ℕ) (s : Sound xs) (e : Entry) (h : ℕ) where
 
   -- and damage is never met
   pub add-undamaged : add xs e h ≡ refused damaged → ⊥
+  unfolding add
   add-undamaged a = go search-decides
     where
       other : (r : Found) → placed xs e h r ≡ refused damaged → ⊥

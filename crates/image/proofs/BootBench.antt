@@ -14,20 +14,20 @@ use Rattle.rule.proofs.Lists.{both-true, all-nil, all-cons}
 use Rattle.image.specs.Words.{Bytes, word, putWord, putWords}
 use Rattle.image.specs.Entries.{encode, lenAt, keyedAt, restAt}
 use Rattle.image.specs.Nodes.{leadAt, heightOf, entryOf, linkOf}
-use Rattle.image.specs.Sound.{Sound, held}
+use Rattle.image.specs.Sound.{headerHolds, Sound, held}
 use Rattle.image.specs.Search.{find, look}
 use Rattle.image.specs.Refusals.{duplicate, noNode, Answer, refused, given}
 use Rattle.image.specs.Fresh.{freshImage}
 use Rattle.image.specs.Add.{nodeWritten, written, Grown, add, afterwards}
 use Rattle.image.specs.Lookup.{found, deleted, absent, Lookup, get, Presence, presence}
-use Rattle.image.specs.EntryMoves.{Cursor, nowhere, on, first, seek, next, previous, entryMove, viewed, keyView, valueView}
+use Rattle.image.specs.EntryMoves.{Cursor, nowhere, on, first, seek, next, previous, entryMove, partsOn, viewed, keyView, valueView}
 use Rattle.image.specs.Check.{isSound}
 use Rattle.image.specs.BootBench.{put, gone, a, b, c, w, x, y, v, tableT, Right, cases}
 use Rattle.image.proofs.Check.{check-sound}
 
 -- P1 to P12
 pub boot-bench : All Right cases
-unfolding compareKeys compareEntries find look word putWord putWords linkOf nodeWritten written lenAt keyedAt restAt encode leadAt
+unfolding compareKeys compareEntries headerHolds add get presence entryMove partsOn find look word putWord putWords linkOf nodeWritten written lenAt keyedAt restAt encode leadAt
 boot-bench =
     all-cons refl (all-cons refl (all-cons refl (all-cons refl (all-cons refl
     (all-cons refl (all-cons refl (all-cons refl
@@ -55,31 +55,31 @@ bytes-by-test (z ∷ zs) t zero = ltb-true z 256 ((both-true (ltb z 256) (allByt
 bytes-by-test (z ∷ zs) t (suc i) = bytes-by-test zs ((both-true (ltb z 256) (allBytes zs) t) .1) i
 
 pub table-sound : Sound imageT
-unfolding compareKeys compareEntries find look word putWord putWords linkOf heightOf entryOf nodeWritten written lenAt keyedAt restAt encode leadAt allBytes
+unfolding compareKeys compareEntries headerHolds add get presence entryMove partsOn find look word putWord putWords linkOf heightOf entryOf nodeWritten written lenAt keyedAt restAt encode leadAt allBytes
 table-sound = check-sound imageT (bytes-by-test imageT refl) refl
 
 -- with node 1 linked to itself at level 0 it is not: node 1 starts behind the header, and its links 8 bytes further
 pub self-link : isSound (putWord imageT 72 1) ≡ false
-unfolding compareKeys compareEntries find look word putWord putWords linkOf heightOf entryOf nodeWritten written lenAt keyedAt restAt encode leadAt
+unfolding compareKeys compareEntries headerHolds add get presence entryMove partsOn find look word putWord putWords linkOf heightOf entryOf nodeWritten written lenAt keyedAt restAt encode leadAt
 self-link = refl
 
 -- it holds T's entries in order of arrival
 pub table-held : held imageT ≡ put c 4 v ∷ put a 1 x ∷ put b 2 y ∷ gone a 3 ∷ put c 0 w ∷ []
-unfolding compareKeys compareEntries find look word putWord putWords linkOf heightOf entryOf nodeWritten written lenAt keyedAt restAt encode leadAt
+unfolding compareKeys compareEntries headerHolds add get presence entryMove partsOn find look word putWord putWords linkOf heightOf entryOf nodeWritten written lenAt keyedAt restAt encode leadAt
 table-held = refl
 
 -- lookups of a at 2, at 3 and at 0; of an entry that is held; a duplicate whatever its type
 pub table-lookups : (get imageT a 2 ≡ given (record { says = found 2; looks = 13 })) × (get imageT a 3 ≡ given (record { says = deleted; looks = 12 })) × (get imageT a 0 ≡ given (record { says = absent; looks = 13 }))
     × (presence imageT a 3 0 ≡ given (record { held = true; looks = 12 })) × (presence imageT a 3 1 ≡ given (record { held = false; looks = 12 })) × (add imageT (put a 3 x) 1 ≡ refused duplicate)
-unfolding compareKeys compareEntries find look word putWord putWords linkOf heightOf entryOf nodeWritten written lenAt keyedAt restAt encode leadAt
+unfolding compareKeys compareEntries headerHolds add get presence entryMove partsOn find look word putWord putWords linkOf heightOf entryOf nodeWritten written lenAt keyedAt restAt encode leadAt
 table-lookups = (refl, refl, refl, refl, refl, refl)
 
 -- the entry cursor: a@3-, a@1=x, b@2=y, c@4=v, c@0=w, and back
 pub table-moves : (entryMove imageT first nowhere ≡ given (on 4)) × (entryMove imageT next (on 4) ≡ given (on 2)) × (entryMove imageT next (on 2) ≡ given (on 3)) × (entryMove imageT next (on 3) ≡ given (on 1)) × (entryMove imageT next (on 1) ≡ given (on 5))
     × (entryMove imageT next (on 5) ≡ given nowhere) × (entryMove imageT previous (on 1) ≡ given (on 3)) × (entryMove imageT previous (on 4) ≡ given nowhere) × (entryMove imageT (seek b 9) nowhere ≡ given (on 3)) × (entryMove imageT next (on 6) ≡ refused noNode)
-unfolding compareKeys compareEntries find look word putWord putWords linkOf heightOf entryOf nodeWritten written lenAt keyedAt restAt encode leadAt
+unfolding compareKeys compareEntries headerHolds add get presence entryMove partsOn find look word putWord putWords linkOf heightOf entryOf nodeWritten written lenAt keyedAt restAt encode leadAt
 table-moves = (refl, refl, refl, refl, refl, refl, refl, refl, refl, refl)
 
 pub table-views : (viewed imageT (keyView imageT (on 3)) ≡ b) × (viewed imageT (valueView imageT (on 3)) ≡ y) × (viewed imageT (valueView imageT (on 4)) ≡ []) × (viewed imageT (keyView imageT (on 0)) ≡ [])
-unfolding compareKeys compareEntries find look word putWord putWords linkOf heightOf entryOf nodeWritten written lenAt keyedAt restAt encode leadAt
+unfolding compareKeys compareEntries headerHolds add get presence entryMove partsOn find look word putWord putWords linkOf heightOf entryOf nodeWritten written lenAt keyedAt restAt encode leadAt
 table-views = (refl, refl, refl, refl)

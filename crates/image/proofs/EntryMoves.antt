@@ -189,6 +189,7 @@ module _ (xs : List ℕ) (s : Sound xs) where
 
   -- each move is accepted, and leads where the order says
   pub move-leads : (m : EntryMove) (c : Cursor) → Stands c → Fitting m → (d : Cursor) × (entryMove xs m c ≡ given d) × Leads xs m c d
+  unfolding entryMove
   move-leads m c h f = let (d, g, l) = moved-leads m c h in (d, accepted m c h f d g, l)
     where
       in-table : (c : Cursor) → Stands c → inTable xs c ≡ true

@@ -57,6 +57,7 @@ module _ (xs : List ℕ) (s : Sound xs) where
 
   -- the lookup: never refused for damage, at most n + 12 looks, and from the highest number up to the snapshot
   pub get-tells : (k : List ℕ) (t : ℕ) → t ≤ maxNumber → length k ≤ maxKey → (a : Lookup) × (get xs k t ≡ given a) × Tells xs k t (a .says) × (a .looks ≤ count xs + levels)
+  unfolding get
   get-tells k t low short = go (search-sound xs s toStop k t) (lookup-right xs s toStop passes k t)
     where
       passes : (o : Ord) → isOnward (turnBy toStop o) ≡ isLess o
@@ -74,6 +75,7 @@ module _ (xs : List ℕ) (s : Sound xs) where
 
   -- presence: never refused for damage, at most n + 12 looks, and yes exactly if that entry is held
   pub presence-tells : (k : List ℕ) (n kind : ℕ) → kind ≤ 1 → n ≤ maxNumber → length k ≤ maxKey → (a : Presence) × (presence xs k n kind ≡ given a) × ((a .held ≡ true) ↔ IsHeld xs k n kind) × (a .looks ≤ count xs + levels)
+  unfolding presence
   presence-tells k n kind known low short = go (search-decides xs s (record { key = k; number = n; kind = kind; value = [] }) 1)
     where
       probe : Entry

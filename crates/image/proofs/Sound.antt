@@ -25,6 +25,7 @@ use Rattle.image.proofs.Insert.{linked-distinct}
 -- ---- the header, as a record and as a test
 
 pub header-sound : (xs : List ℕ) → headerHolds xs ≡ true → Header xs
+unfolding headerHolds
 header-sound xs e =
     let (a, b) = both-true (both (leb headerSize (length xs)) (leb (length xs) maxImage)) _ e in
     let (a1, a2) = both-true (leb headerSize (length xs)) (leb (length xs) maxImage) a in
@@ -43,6 +44,7 @@ header-sound xs e =
     }
 
 pub header-complete : (xs : List ℕ) → Header xs → headerHolds xs ≡ true
+unfolding headerHolds
 header-complete xs h = rw (
   le-leb headerSize (length xs) (h .long),
   le-leb (length xs) maxImage (h .short),

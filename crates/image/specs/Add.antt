@@ -47,7 +47,7 @@ placed xs e h (hit x looks) = refused duplicate
 placed xs e h (ends p x looks prev) = demand (hasRoom xs e h) noRoom (given (record { node = suc (count xs); image = withEntry xs e h prev }))
 
 -- refusals 1, 2, 3, 4, 5, 6, then 9 or 8, then 7
-abbrev pub add : List ℕ → Entry → ℕ → Answer Grown
+unfoldable pub add : List ℕ → Entry → ℕ → Answer Grown
 add xs e h =
     demand (headerHolds xs) badImage
     (demand (leb (e .kind) 1) badKind

@@ -1,19 +1,19 @@
 -- The entry cursor of one table and what it shows, on any bytes: document 01, 'Looking, moving, showing'.
-use Prim.Native.Nat.{ℕ, zero, suc, _/_, _%_}
+use Prim.Native.Nat.{ℕ, zero, suc, _%_}
 use mathlib.Core.List.{List, []}
 use mathlib.Core.Bool.{Bool, true}
 use lib.ListN.{length}
 use lib.Dec.{leb, eqb}
-use Rattle.rule.specs.Lists.{cond, both}
+use Rattle.rule.specs.Lists.{cond, both, Maybe, none, some}
 use Rattle.rule.specs.Entries.{valueKind}
 use Rattle.image.specs.Limits.{maxKey, maxNumber}
 use Rattle.image.specs.Words.{part}
 use Rattle.image.specs.Readers.{Read, got, bad, bind, check}
-use Rattle.image.specs.Entries.{Keyed, Parts, keyIn, numberIn}
-use Rattle.image.specs.Nodes.{count, Lead, Node, leadOf, nodeAt, linkPlace, linkOf}
+use Rattle.image.specs.Entries.{Parts, keyIn, numberIn}
+use Rattle.image.specs.Nodes.{count, Lead, leadOf, nodeAt, linkPlace, linkOf}
 use Rattle.image.specs.Sound.{headerHolds}
 use Rattle.image.specs.Search.{toStop, toGoDown, searched, standing, passed}
-use Rattle.image.specs.Refusals.{badImage, badNumber, longKey, noNode, Answer, refused, given, demand, reading}
+use Rattle.image.specs.Refusals.{badImage, badNumber, longKey, noNode, Answer, refused, given, demand, reading, refusalOf}
 
 -- nowhere, or on a node
 pub data Cursor : Type 0 where
@@ -61,7 +61,7 @@ allowed next a = a
 allowed previous a = a
 
 -- the call; refusals 1, 10, 3, 4, 9. A refused move hands back the cursor that it was handed
-abbrev pub entryMove : List ℕ → EntryMove → Cursor → Answer Cursor
+unfoldable pub entryMove : List ℕ → EntryMove → Cursor → Answer Cursor
 entryMove xs m c = demand (headerHolds xs) badImage (demand (inTable xs c) noNode (allowed m (reading (moved xs m c) given)))
 
 abbrev pub cursorAfter : Cursor → Answer Cursor → Cursor
@@ -83,20 +83,42 @@ abbrev pub viewed : List ℕ → Answer Span → List ℕ
 viewed xs (refused r) = []
 viewed xs (given s) = part xs (s .at) (s .len)
 
--- what a node shows, and what nowhere shows; refusals 1, 10, 9
-abbrev pub view {ℓ} : {A : Type ℓ} → List ℕ → Cursor → (Parts → A) → A → Answer A
-view xs nowhere show empty = demand (headerHolds xs) badImage (given empty)
-view xs (on i) show empty = demand (headerHolds xs) badImage (demand (inTable xs (on i)) noNode (reading (nodeAt xs i) (λ m. given (show (m .parts)))))
+-- the parts of the node at a cursor, none if nowhere; refusals 1, 10, 9
+unfoldable pub partsOn : List ℕ → Cursor → Answer (Maybe Parts)
+partsOn xs nowhere = demand (headerHolds xs) badImage (given none)
+partsOn xs (on i) = demand (headerHolds xs) badImage (demand (inTable xs (on i)) noNode (reading (nodeAt xs i) (λ m. given (some (m .parts)))))
 
+-- what is shown of them, and what nowhere shows
+abbrev pub view {ℓ} : {A : Type ℓ} → (Parts → A) → A → Answer (Maybe Parts) → Answer A
+view show empty (refused r) = refused r
+view show empty (given none) = given empty
+view show empty (given (some p)) = given (show p)
+
+-- the type of an entry
+abbrev pub kindIn : Parts → ℕ
+kindIn p = p .keyed .tagIs % 256
+
+-- where its key stands
+abbrev pub keySpan : Parts → Span
+keySpan p = record { at = p .keyed .keyAt; len = p .keyed .keyLen }
+
+-- where its value stands; a deletion's is empty
+abbrev pub valueSpan : Parts → Span
+valueSpan p = cond (eqb (kindIn p) valueKind) (record { at = p .valueAt; len = p .valueLen }) emptySpan
+
+-- the four views at a cursor
 abbrev pub keyView : List ℕ → Cursor → Answer Span
-keyView xs c = view xs c (λ p. record { at = p .keyed .keyAt; len = p .keyed .keyLen }) emptySpan
+keyView xs c = view keySpan emptySpan (partsOn xs c)
+
+abbrev pub valueView : List ℕ → Cursor → Answer Span
+valueView xs c = view valueSpan emptySpan (partsOn xs c)
 
 abbrev pub numberView : List ℕ → Cursor → Answer ℕ
-numberView xs c = view xs c (λ p. numberIn (p .keyed)) 0
+numberView xs c = view (λ p. numberIn (p .keyed)) 0 (partsOn xs c)
 
 abbrev pub kindView : List ℕ → Cursor → Answer ℕ
-kindView xs c = view xs c (λ p. p .keyed .tagIs % 256) 0
+kindView xs c = view kindIn 0 (partsOn xs c)
 
--- the value; a deletion's is empty
-abbrev pub valueView : List ℕ → Cursor → Answer Span
-valueView xs c = view xs c (λ p. cond (eqb (p .keyed .tagIs % 256) valueKind) (record { at = p .valueAt; len = p .valueLen }) emptySpan) emptySpan
+-- their companion: the refusal's number, or 0; it is the same for all four
+abbrev pub viewRefusal : List ℕ → Cursor → ℕ
+viewRefusal xs c = refusalOf (partsOn xs c)

@@ -18,5 +18,5 @@ abbrev pub freshImage : List ℕ → List ℕ
 freshImage xs = sets xs 0 (freshHeader (length xs))
 
 -- the call: only the length can be refused
-abbrev pub fresh : List ℕ → Answer (List ℕ)
+unfoldable pub fresh : List ℕ → Answer (List ℕ)
 fresh xs = demand (both (leb headerSize (length xs)) (leb (length xs) maxImage)) badImage (given (freshImage xs))

@@ -36,7 +36,7 @@ saidAt xs k zero = got absent
 saidAt xs k (suc i) = bind (nodeAt xs (suc i)) (λ m. got (saysOf k (suc i) (entryIn xs (m .parts))))
 
 -- the lookup of k at snapshot s; refusals 1, 3, 4, 9
-abbrev pub get : List ℕ → List ℕ → ℕ → Answer Lookup
+unfoldable pub get : List ℕ → List ℕ → ℕ → Answer Lookup
 get xs k s =
     demand (headerHolds xs) badImage
     (demand (leb s maxNumber) badNumber
@@ -56,7 +56,7 @@ heldAt xs kind (hit x looks) = bind (nodeAt xs x) (λ m. got (eqb ((entryIn xs (
 heldAt xs kind (ends p x looks prev) = got false
 
 -- the presence of an entry with key k, number n and this type; refusals 1, 2, 3, 4, 9
-abbrev pub presence : List ℕ → List ℕ → ℕ → ℕ → Answer Presence
+unfoldable pub presence : List ℕ → List ℕ → ℕ → ℕ → Answer Presence
 presence xs k n kind =
     demand (headerHolds xs) badImage
     (demand (leb kind 1) badKind

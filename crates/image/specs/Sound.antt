@@ -24,7 +24,7 @@ pub record Header (xs : List ℕ) : Type 0 where
   pub high : free xs ≤ length xs - 4 * count xs
 
 -- the same as a test
-abbrev pub headerHolds : List ℕ → Bool
+unfoldable pub headerHolds : List ℕ → Bool
 headerHolds xs =
     both (both (leb headerSize (length xs)) (leb (length xs) maxImage))
     (both (both (eqb (word xs 0) (length xs)) (eqb (word xs 12) levels))

@@ -8,3 +8,4 @@ pub mod NodeBytes
 pub mod Parts
 pub mod Looking
 pub mod Inserting
+pub mod Answers

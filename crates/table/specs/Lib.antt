@@ -3,3 +3,5 @@ pub mod Entries
 pub mod Insert
 pub mod Nodes
 pub mod Skipmap
+pub mod Refusals
+pub mod Memtable

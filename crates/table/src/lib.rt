@@ -5,3 +5,5 @@ pub mod entries; // entries.rt: the bytes of an entry
 pub mod insert; // insert.rt: writing to an image
 pub mod nodes; // nodes.rt: header and nodes of an image
 pub mod skipmap; // skipmap.rt: the search
+pub mod refusals; // refusals.rt: why a call is refused
+pub mod memtable; // memtable.rt: the calls on one table

@@ -1,0 +1,121 @@
+-- The ways out of fresh and of an addition.
+use Prim.Native.Nat.{ℕ, suc, _+_, _<_, _≤_}
+use native.Mathlib.Omega.{arith}
+use native.Mathlib.Numerals.{add-one}
+use mathlib.Core.Path.{_≡_, refl, sym, ap, _∙_}
+use mathlib.Core.List.{List, []}
+use mathlib.Core.Bool.{Bool, true, false, not}
+use lib.ListN.{length}
+use lib.Dec.{leb}
+use borrow.Author.Tests.{le-leb, lt-leb, leb-true, not-true, not-false}
+use Rattle.rule.specs.Lists.{both}
+use Rattle.rule.specs.Entries.{Entry}
+use Rattle.image.specs.Limits.{headerSize, maxImage, maxKey, maxValue, maxNumber, levels}
+use Rattle.image.specs.Nodes.{count}
+use Rattle.image.specs.Sound.{Sound, Header, headerHolds}
+use Rattle.image.specs.Search.{toStop, searched}
+use Rattle.image.specs.Refusals.{badImage, badKind, badNumber, longKey, longValue, badHeight, Answer, refused, given, reading}
+use Rattle.image.specs.Fresh.{freshImage, fresh}
+use Rattle.image.specs.Add.{Grown, placed, add, afterwards}
+use Rattle.image.proofs.Sound.{header-sound}
+use Rattle.image.proofs.Fresh.{fresh-sound, fresh-holds-nothing}
+use Rattle.image.proofs.Add.{Allowed, add-searches, add-added, add-undamaged}
+use Rattle.table.specs.Refusals.{refusalIs}
+use Rattle.table.specs.Insert.{Insertable, insertedAs, Inserts}
+use Rattle.table.specs.Memtable.{Freshens, addedAs, AddRule, Adds}
+use Rattle.table.specs.declared.refusals.Refusal.{Refusal}
+use Rattle.table.specs.declared.refusals.Refusal.the-variants as refusal
+use Rattle.table.specs.declared.insert.Inserted.{Inserted}
+use Rattle.table.specs.declared.memtable.Freshened.the-variants as freshened
+use Rattle.table.specs.declared.memtable.Added.{Added}
+use Rattle.table.specs.declared.memtable.Added.the-variants as added
+
+-- ---- fresh
+
+pub fresh-short : (xs : List ℕ) → length xs < headerSize → Freshens xs (freshened.Refused refusal.BadImage) xs
+unfolding fresh
+fresh-short xs h = record { exact = rw (lt-leb headerSize (length xs) h); bytes = rw (lt-leb headerSize (length xs) h); rule = λ a b. absurd (omega arith) }
+
+pub fresh-long : (xs : List ℕ) → headerSize ≤ length xs → maxImage < length xs → Freshens xs (freshened.Refused refusal.BadImage) xs
+unfolding fresh
+fresh-long xs g h = record { exact = rw (le-leb headerSize (length xs) g, lt-leb (length xs) maxImage h); bytes = rw (le-leb headerSize (length xs) g, lt-leb (length xs) maxImage h); rule = λ a b. absurd (omega arith) }
+
+pub fresh-done : (xs : List ℕ) → headerSize ≤ length xs → length xs ≤ maxImage → (ys : List ℕ) → ys ≡ freshImage xs → Freshens xs freshened.Done ys
+unfolding fresh
+fresh-done xs g h ys e = record {
+  exact = rw (le-leb headerSize (length xs) g, le-leb (length xs) maxImage h, e);
+  bytes = rw (le-leb headerSize (length xs) g, le-leb (length xs) maxImage h) e;
+  rule = λ a b. rw e (fresh-sound xs g h, fresh-holds-nothing xs g h);
+}
+
+-- ---- add
+
+-- what an answer promises on a sound image follows from what it is on any
+add-rule : (xs : List ℕ) (e : Entry) (h : ℕ) (r : Added) (ys : List ℕ) → addedAs r ys ≡ add xs e h → Sound xs → AddRule xs e r ys
+add-rule xs e h (added.Node i) ys f s = let (prev, n, a) = add-added xs s e h (record { node = i; image = ys }) (sym f) in (a .sound, a .held-more, n ∙ sym (add-one (count xs)))
+add-rule xs e h (added.Refused q) ys f s = λ d. add-undamaged xs s e h (sym f ∙ ap {B = Answer Grown} refused d)
+
+pub adds : (xs : List ℕ) (e : Entry) (h : ℕ) (r : Added) (ys : List ℕ) → addedAs r ys ≡ add xs e h → ys ≡ afterwards xs (add xs e h) → Adds xs e h r ys
+adds xs e h r ys f b = record { exact = f; bytes = b; rule = add-rule xs e h r ys f }
+
+-- a refusal keeps every byte
+pub adds-refused : (xs : List ℕ) (e : Entry) (h : ℕ) (q : Refusal) → refused (refusalIs q) ≡ add xs e h → Adds xs e h (added.Refused q) xs
+adds-refused xs e h q f = adds xs e h (added.Refused q) xs f (rw (← f))
+
+-- an insertion's answer under another name
+pub adds-inserted : (xs : List ℕ) (e : Entry) (h : ℕ) (a : Inserted) (r : Added) (ys : List ℕ) → Insertable xs e h → Inserts xs e h a ys → ((zs : List ℕ) → addedAs r zs ≡ insertedAs a zs) → Adds xs e h r ys
+adds-inserted xs e h a r ys ok i f = let whole = add-searches xs e h (ok .header) (record { legal = ok .legal; low = ok .height-some; high = ok .height-most }) in
+    adds xs e h r ys (f ys ∙ i .exact ∙ sym whole) (i .bytes ∙ ap (afterwards xs) (sym whole))
+
+-- the tests in their order
+module _ (xs : List ℕ) (e : Entry) (h : ℕ) {b : Bool} (header : b ≡ headerHolds xs) where
+  pub at-header : not b ≡ true → refused badImage ≡ add xs e h
+  unfolding add
+  at-header t = rw (sym header ∙ not-true b t)
+
+  module _ (good : not b ≡ false) {c : Bool} (kind : c ≡ leb (e .kind) 1) where
+    holds : headerHolds xs ≡ true
+    holds = sym header ∙ not-false b good
+
+    pub at-kind : not c ≡ true → refused badKind ≡ add xs e h
+    unfolding add
+    at-kind t = rw (holds, sym kind ∙ not-true c t)
+
+    module _ (known : not c ≡ false) {d : Bool} (number : d ≡ leb (e .number) maxNumber) where
+      kinded : leb (e .kind) 1 ≡ true
+      kinded = sym kind ∙ not-false c known
+
+      pub at-number : not d ≡ true → refused badNumber ≡ add xs e h
+      unfolding add
+      at-number t = rw (holds, kinded, sym number ∙ not-true d t)
+
+      module _ (low : not d ≡ false) where
+        numbered : leb (e .number) maxNumber ≡ true
+        numbered = sym number ∙ not-false d low
+
+        pub at-key : maxKey < length (e .key) → refused longKey ≡ add xs e h
+        unfolding add
+        at-key t = rw (holds, kinded, numbered, lt-leb (length (e .key)) maxKey t)
+
+        module _ (short : length (e .key) ≤ maxKey) where
+          pub at-value : maxValue < length (e .value) → refused longValue ≡ add xs e h
+          unfolding add
+          at-value t = rw (holds, kinded, numbered, le-leb (length (e .key)) maxKey short, lt-leb (length (e .value)) maxValue t)
+
+          module _ (small : length (e .value) ≤ maxValue) where
+            pub at-flat : h < 1 → refused badHeight ≡ add xs e h
+            unfolding add
+            at-flat t = rw (holds, kinded, numbered, le-leb (length (e .key)) maxKey short, le-leb (length (e .value)) maxValue small, lt-leb 1 h t)
+
+            module _ (some : 1 ≤ h) where
+              pub at-tall : levels < h → refused badHeight ≡ add xs e h
+              unfolding add
+              at-tall t = rw (holds, kinded, numbered, le-leb (length (e .key)) maxKey short, le-leb (length (e .value)) maxValue small, le-leb 1 h some, lt-leb h levels t)
+
+              pub allowed : h ≤ levels → Insertable xs e h
+              allowed most = record {
+                header = header-sound xs holds;
+                legal = record { key-short = short; value-short = small; number-low = leb-true (e .number) maxNumber numbered; kind-known = leb-true (e .kind) 1 kinded };
+                height-some = some;
+                height-most = most;
+              }

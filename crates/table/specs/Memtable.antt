@@ -1,0 +1,55 @@
+-- What the calls on one table promise: `exact`, the answer and every lent byte on any bytes, and `rule`, what it means on a sound image.
+use Prim.Native.Nat.{ℕ, _+_, _≤_}
+use mathlib.Core.Path.{_≡_}
+use mathlib.Core.Logic.{_↔_}
+use mathlib.Core.List.{List, [], _∷_, _++_}
+use mathlib.Core.Bool.{Bool, true, false}
+use lib.ListN.{length}
+use Rattle.rule.specs.Entries.{Entry}
+use Rattle.image.specs.Limits.{headerSize, maxImage, maxNumber, maxKey, levels}
+use Rattle.image.specs.Nodes.{count}
+use Rattle.image.specs.Sound.{Sound, held}
+use Rattle.image.specs.Refusals.{damaged, Answer, refused, given}
+use Rattle.image.specs.Fresh.{fresh}
+use Rattle.image.specs.Add.{Grown, add, afterwards}
+use Rattle.image.specs.Meaning.{Tells, IsHeld}
+use Rattle.table.specs.Refusals.{refusalIs}
+use Rattle.table.specs.declared.refusals.Refusal.{Refusal}
+use Rattle.table.specs.declared.memtable.Freshened.{Freshened}
+use Rattle.table.specs.declared.memtable.Freshened.the-variants as freshened
+use Rattle.table.specs.declared.memtable.Added.{Added}
+use Rattle.table.specs.declared.memtable.Added.the-variants as added
+
+-- ---- fresh
+
+-- the answer, with the image afterwards
+abbrev pub freshenedAs : Freshened → List ℕ → Answer (List ℕ)
+freshenedAs freshened.Done ys = given ys
+freshenedAs (freshened.Refused q) ys = refused (refusalIs q)
+
+-- the image after the call: a refusal keeps every byte
+abbrev pub freshAfter : List ℕ → Answer (List ℕ) → List ℕ
+freshAfter xs (refused r) = xs
+freshAfter xs (given ys) = ys
+
+pub record Freshens (xs : List ℕ) (r : Freshened) (ys : List ℕ) : Type 0 where
+  pub exact : freshenedAs r ys ≡ fresh xs
+  pub bytes : ys ≡ freshAfter xs (fresh xs)
+  pub rule : headerSize ≤ length xs → length xs ≤ maxImage → Sound ys × (held ys ≡ [])
+
+-- ---- add
+
+-- the answer, with the image afterwards
+abbrev pub addedAs : Added → List ℕ → Answer Grown
+addedAs (added.Node i) ys = given (record { node = i; image = ys })
+addedAs (added.Refused q) ys = refused (refusalIs q)
+
+-- exactly this entry is appended, in the next node, and the table stays sound; or the refusal is not damage
+abbrev pub AddRule : List ℕ → Entry → Added → List ℕ → Type 0
+AddRule xs e (added.Node i) ys = Sound ys × (held ys ≡ held xs ++ (e ∷ [])) × (i ≡ count xs + 1)
+AddRule xs e (added.Refused q) ys = refusalIs q ≡ damaged → ⊥
+
+pub record Adds (xs : List ℕ) (e : Entry) (height : ℕ) (r : Added) (ys : List ℕ) : Type 0 where
+  pub exact : addedAs r ys ≡ add xs e height
+  pub bytes : ys ≡ afterwards xs (add xs e height)
+  pub rule : Sound xs → AddRule xs e r ys

@@ -1,0 +1,93 @@
+// The memtable: the calls on one table. None of them asks anything of its caller; each fixes its answer, and of a lent image
+// every byte afterwards, on any bytes. A refusal has a number and keeps every byte.
+ghost use Rattle.table.specs.Entries.{entry};
+ghost use mathlib.Core.Path.{_≡_};
+ghost use mathlib.Core.List.{List};
+ghost use Prim.Native.Nat.{ℕ};
+ghost use Rattle.table.specs.Memtable.{Freshens, addedAs, Adds};
+ghost use Rattle.table.specs.Insert.{insertedAs};
+use crate::entries::MAX_KEY;
+use crate::entries::MAX_VALUE;
+use crate::insert::Inserted;
+use crate::insert::fresh_header;
+use crate::insert::insert;
+use crate::key_types::Number;
+use crate::key_types::Ordering;
+use crate::key_types::Tag;
+use crate::key_types::compare_keys;
+use crate::nodes::HEADER_SIZE;
+use crate::nodes::LEVELS;
+use crate::nodes::MAX_IMAGE;
+use crate::nodes::NodeRead;
+use crate::nodes::header_holds;
+use crate::nodes::node_of;
+use crate::refusals::Refusal;
+use crate::skipmap::OnEqual;
+use crate::skipmap::Spot;
+use crate::skipmap::search;
+
+// What making a table fresh answers.
+pub enum Freshened {
+    Done,
+    Refused(Refusal),
+}
+
+// Makes an empty table of any bytes of a legal length: its header is written, the other bytes keep what they held.
+pub fn fresh(s: &mut [u8]) -> Freshened
+    ensures { λ r. ⌜ Freshens (now (s .entry)) r (now (s .exit)) ⌝ }
+{
+    if s.len() < HEADER_SIZE {
+        return Freshened::Refused(Refusal::BadImage);
+    }
+    if s.len() > MAX_IMAGE {
+        return Freshened::Refused(Refusal::BadImage);
+    }
+    fresh_header(s);
+    Freshened::Done
+}
+
+// What an addition answers: the new node's number, or why it was refused.
+pub enum Added {
+    Node(usize),
+    Refused(Refusal),
+}
+
+// The answer of an insertion.
+fn as_added(a: Inserted) -> Added
+    ensures { λ r. ⌜ ((ys : List ℕ) → addedAs r ys ≡ insertedAs a ys) ⌝ }
+{
+    match a {
+        Inserted::At(i) => Added::Node(i),
+        Inserted::Duplicate => Added::Refused(Refusal::Duplicate),
+        Inserted::Full => Added::Refused(Refusal::NoRoom),
+        Inserted::Damaged => Added::Refused(Refusal::Damaged),
+    }
+}
+
+// Adds an entry in a node of the given height. Refusals 1, 2, 3, 4, 5, 6, then 9 or 8, then 7.
+pub fn add(s: &mut [u8], key: &[u8], number: u64, kind: u8, value: &[u8], height: usize) -> Added
+    ensures { λ r. ⌜ Adds (now (s .entry)) (entry (now (key .entry)) number kind (now (value .entry))) height r (now (s .exit)) ⌝ }
+{
+    if !header_holds(s) {
+        return Added::Refused(Refusal::BadImage);
+    }
+    if !Tag::known(kind) {
+        return Added::Refused(Refusal::BadKind);
+    }
+    if !Number::fits(number) {
+        return Added::Refused(Refusal::BadNumber);
+    }
+    if key.len() > MAX_KEY {
+        return Added::Refused(Refusal::LongKey);
+    }
+    if value.len() > MAX_VALUE {
+        return Added::Refused(Refusal::LongValue);
+    }
+    if height < 1 {
+        return Added::Refused(Refusal::BadHeight);
+    }
+    if height > LEVELS {
+        return Added::Refused(Refusal::BadHeight);
+    }
+    as_added(insert(s, key, number, kind, value, height))
+}
