@@ -154,6 +154,14 @@ lead-bounds xs limit o m g = go (lead-steps xs limit o m g)
           rest-is = rw (← s .is) r;
         }
 
+-- and so do the parts of a whole node
+pub node-inside : (xs : List ℕ) (limit o : ℕ) (n : Node) → bind (leadAt xs limit o) (nodeFrom xs) ≡ got n → (n .parts .keyed .keyAt + n .parts .keyed .keyLen ≤ limit) × (n .parts .valueAt + n .parts .valueLen ≤ limit)
+node-inside xs limit o n g = let (m, gm, gn) = bind-got (leadAt xs limit o) (nodeFrom xs) n g in go m (lead-bounds xs limit o m gm) (node-steps xs m n gn)
+  where
+    go : (m : Lead) → Bounds xs limit o m → NodeSteps xs m n → (n .parts .keyed .keyAt + n .parts .keyed .keyLen ≤ limit) × (n .parts .valueAt + n .parts .valueLen ≤ limit)
+    go m b s = let (k, v) = rest-inside xs (m .end) (m .keyed) (s .parts) (s .read) in let high = b .end-inside in
+        (rw (← s .is, k) (omega (arith, b .key-inside)), rw (← s .is) (omega arith))
+
 -- a node is kept where its height, its length and its entry are
 pub node-same : (xs ys : List ℕ) (limit limit′ o h : ℕ) (e : Entry) → limit ≤ limit′ → Same xs ys o (o + 8) → Same xs ys (entryPlace o h) (o + sizeOf h e) → NodeHere xs limit o h e → NodeHere ys limit′ o h e
 node-same xs ys limit limit′ o h e le s t n = record {

@@ -9,3 +9,4 @@ pub mod Parts
 pub mod Looking
 pub mod Inserting
 pub mod Answers
+pub mod Lookups

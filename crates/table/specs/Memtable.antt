@@ -12,6 +12,8 @@ use Rattle.image.specs.Sound.{Sound, held}
 use Rattle.image.specs.Refusals.{damaged, Answer, refused, given}
 use Rattle.image.specs.Fresh.{fresh}
 use Rattle.image.specs.Add.{Grown, add, afterwards}
+use Rattle.image.specs.Sound.{Header}
+use Rattle.image.specs.Lookup.{found, deleted, absent, Lookup as LookupIs, get, Presence as PresenceIs, presence}
 use Rattle.image.specs.Meaning.{Tells, IsHeld}
 use Rattle.table.specs.Refusals.{refusalIs}
 use Rattle.table.specs.declared.refusals.Refusal.{Refusal}
@@ -19,6 +21,8 @@ use Rattle.table.specs.declared.memtable.Freshened.{Freshened}
 use Rattle.table.specs.declared.memtable.Freshened.the-variants as freshened
 use Rattle.table.specs.declared.memtable.Added.{Added}
 use Rattle.table.specs.declared.memtable.Added.the-variants as added
+use Rattle.table.specs.declared.memtable.Lookup.{Lookup}
+use Rattle.table.specs.declared.memtable.Lookup.the-variants as lookup
 
 -- ---- fresh
 
@@ -53,3 +57,25 @@ pub record Adds (xs : List ℕ) (e : Entry) (height : ℕ) (r : Added) (ys : Lis
   pub exact : addedAs r ys ≡ add xs e height
   pub bytes : ys ≡ afterwards xs (add xs e height)
   pub rule : Sound xs → AddRule xs e r ys
+
+-- ---- get
+
+-- a good header, and a node of the table or 0
+pub record InTable (xs : List ℕ) (node : ℕ) : Type 0 where
+  pub header : Header xs
+  pub most : node ≤ count xs
+
+-- the answer
+abbrev pub lookupAs : Lookup → Answer LookupIs
+lookupAs (lookup.Found i looks) = given (record { says = found i; looks = looks })
+lookupAs (lookup.Deleted looks) = given (record { says = deleted; looks = looks })
+lookupAs (lookup.Absent looks) = given (record { says = absent; looks = looks })
+lookupAs (lookup.Refused q) = refused (refusalIs q)
+
+-- on a sound image, with a key and a snapshot within their limits: what it tells of the newest entry, after at most n + 12 looks
+abbrev pub GetRule : List ℕ → List ℕ → ℕ → Lookup → Type 0
+GetRule xs k s r = (a : LookupIs) × (lookupAs r ≡ given a) × Tells xs k s (a .says) × (a .looks ≤ count xs + levels)
+
+pub record Gets (xs k : List ℕ) (s : ℕ) (r : Lookup) : Type 0 where
+  pub exact : lookupAs r ≡ get xs k s
+  pub rule : Sound xs → s ≤ maxNumber → length k ≤ maxKey → GetRule xs k s r

@@ -4,7 +4,14 @@ ghost use Rattle.table.specs.Entries.{entry};
 ghost use mathlib.Core.Path.{_≡_};
 ghost use mathlib.Core.List.{List};
 ghost use Prim.Native.Nat.{ℕ};
-ghost use Rattle.table.specs.Memtable.{Freshens, addedAs, Adds};
+ghost use lib.Dec.{eqb};
+ghost use Rattle.rule.specs.Lists.{cond};
+ghost use Rattle.rule.specs.Order.{isEqual};
+ghost use Rattle.rule.specs.Entries.{valueKind};
+ghost use Rattle.image.specs.Refusals.{given, reading};
+ghost use Rattle.image.specs.Lookup.{found, deleted, absent, saidAt};
+ghost use Rattle.table.specs.KeyTypes.{ordOf};
+ghost use Rattle.table.specs.Memtable.{Freshens, addedAs, Adds, InTable, lookupAs, Gets};
 ghost use Rattle.table.specs.Insert.{insertedAs};
 use crate::entries::MAX_KEY;
 use crate::entries::MAX_VALUE;
@@ -90,4 +97,85 @@ pub fn add(s: &mut [u8], key: &[u8], number: u64, kind: u8, value: &[u8], height
         return Added::Refused(Refusal::BadHeight);
     }
     as_added(insert(s, key, number, kind, value, height))
+}
+
+// What a lookup answers, with the looks that it took: the node of the found value, that the newest entry is a deletion, or that
+// there is none.
+pub enum Lookup {
+    Found { node: usize, looks: usize },
+    Deleted { looks: usize },
+    Absent { looks: usize },
+    Refused(Refusal),
+}
+
+// Whether a comparison answered equal.
+fn is_equal(o: Ordering) -> bool
+    ensures { λ r. ⌜ r ≡ isEqual (ordOf o) ⌝ }
+{
+    match o {
+        Ordering::Less => false,
+        Ordering::Equal => true,
+        Ordering::Greater => false,
+    }
+}
+
+// What an entry at a node says of a key, by whether its key is the same and by its type.
+fn said(same: bool, kind: u8, node: usize, looks: usize) -> Lookup
+    ensures { λ r. ⌜ lookupAs r ≡ given (record { says = cond same (cond (eqb kind valueKind) (found node) deleted) absent; looks = looks }) ⌝ }
+{
+    if !same {
+        return Lookup::Absent { looks };
+    }
+    if kind != Tag::VALUE {
+        return Lookup::Deleted { looks };
+    }
+    Lookup::Found { node, looks }
+}
+
+// What the node says of the key at which its search stands, or none.
+fn said_at(s: &[u8], key: &[u8], node: usize, looks: usize) -> Lookup
+    requires { ⌜ InTable (now s) node ⌝ }
+    ensures { λ r. ⌜ lookupAs r ≡ reading (saidAt (now (s .entry)) (now (key .entry)) node) (λ a. given (record { says = a; looks = looks })) ⌝ }
+{
+    if node < 1 {
+        return Lookup::Absent { looks };
+    }
+    let read = node_of(s, node);
+    match read {
+        NodeRead::Bad(_) => Lookup::Refused(Refusal::Damaged),
+        NodeRead::Got(m) => {
+            let keyed = m.parts.keyed;
+            let at = keyed.key_at;
+            let end = at + keyed.key_len;
+            let same = is_equal(compare_keys(&s[at..end], key));
+            let tag = keyed.tag;
+            said(same, tag.kind(), node, looks)
+        }
+    }
+}
+
+// The newest entry of a key up to a snapshot. Refusals 1, 3, 4, 9.
+pub fn get(s: &[u8], key: &[u8], snapshot: u64) -> Lookup
+    ensures { λ r. ⌜ Gets (now (s .entry)) (now (key .entry)) snapshot r ⌝ }
+{
+    if !header_holds(s) {
+        return Lookup::Refused(Refusal::BadImage);
+    }
+    if !Number::fits(snapshot) {
+        return Lookup::Refused(Refusal::BadNumber);
+    }
+    if key.len() > MAX_KEY {
+        return Lookup::Refused(Refusal::LongKey);
+    }
+    let found = search(s, OnEqual::Stop, key, snapshot);
+    let spot = found.spot;
+    match spot {
+        Spot::Bad(_) => Lookup::Refused(Refusal::Damaged),
+        Spot::Hit { node, looks } => said_at(s, key, node, looks),
+        Spot::Ends {
+            before: _,
+            after,
+            looks,
+        } => said_at(s, key, after, looks),
+    }
 }

@@ -1,0 +1,118 @@
+-- The ways out of a lookup and of a question for presence.
+use Prim.Native.Nat.{ℕ, zero, suc, _+_, _-_, _%_, _<_, _≤_}
+use native.Mathlib.Omega.{arith}
+use mathlib.Core.Path.{_≡_, refl, sym, ap, _∙_}
+use mathlib.Core.List.{List}
+use mathlib.Core.Bool.{Bool, true, false, not}
+use lib.ListN.{length}
+use lib.Dec.{leb, eqb}
+use borrow.Author.Tests.{lt-leb, le-leb, leb-true, eq-eqb, ne-eqb, not-true, not-false}
+use Rattle.rule.specs.Lists.{cond}
+use Rattle.rule.specs.Order.{compareKeys, isEqual}
+use Rattle.rule.specs.Entries.{valueKind}
+use Rattle.image.specs.Limits.{maxKey, maxNumber}
+use Rattle.image.specs.Readers.{Read, got, bad, bind}
+use Rattle.image.specs.Words.{part}
+use Rattle.image.specs.Nodes.{count, free, slot, Node, nodeAt}
+use Rattle.image.specs.Sound.{Header, headerHolds}
+use Rattle.image.specs.Search.{toStop, Found, hit, ends, searched}
+use Rattle.image.specs.Refusals.{badImage, badKind, badNumber, longKey, damaged, Answer, refused, given, reading}
+use Rattle.image.specs.Lookup.{Looked, found, deleted, absent, Lookup, saidAt, get}
+use Rattle.image.proofs.Sound.{header-sound}
+use Rattle.image.proofs.Nodes.{node-inside}
+use Rattle.image.proofs.Spots.{search-stopped, search-ended}
+use Rattle.image.proofs.Lookup.{get-tells}
+use Rattle.table.specs.Skipmap.{spotRead, searchRead}
+use Rattle.table.specs.Memtable.{InTable, lookupAs, Gets}
+use Rattle.table.specs.declared.skipmap.Searched.{Searched}
+use Rattle.table.specs.declared.skipmap.Spot.{Spot}
+use Rattle.table.specs.declared.skipmap.Spot.the-variants.{Hit, Ends, Bad}
+use Rattle.table.specs.declared.memtable.Lookup.{Lookup as LookupAnswer}
+
+-- key and value of a node that was read lie in the image
+pub parts-inside : (xs : List ℕ) (i : ℕ) {n : Node} → Header xs → got n ≡ nodeAt xs i → (n .parts .keyed .keyAt + n .parts .keyed .keyLen ≤ length xs) × (n .parts .valueAt + n .parts .valueLen ≤ length xs)
+parts-inside xs i {n} h e = let (a, b) = node-inside xs (free xs) (slot xs i) n (sym e) in let high = h .high in (omega arith, omega arith)
+
+-- ---- what a node says of a key
+
+-- by whether its key is the same, and by its type
+module _ (i looks : ℕ) where
+  pub says-other : (same : Bool) (kind : ℕ) → not same ≡ true → _≡_ {A = Answer Lookup} (given (record { says = absent; looks = looks })) (given (record { says = cond same (cond (eqb kind valueKind) (found i) deleted) absent; looks = looks }))
+  says-other same kind h = rw (not-true same h)
+
+  pub says-deleted : (same : Bool) (kind : ℕ) → not same ≡ false → (kind ≡ valueKind → ⊥) → _≡_ {A = Answer Lookup} (given (record { says = deleted; looks = looks })) (given (record { says = cond same (cond (eqb kind valueKind) (found i) deleted) absent; looks = looks }))
+  says-deleted same kind h n = rw (not-false same h, ne-eqb kind valueKind n)
+
+  pub says-found : (same : Bool) (kind : ℕ) → not same ≡ false → kind ≡ valueKind → _≡_ {A = Answer Lookup} (given (record { says = found i; looks = looks })) (given (record { says = cond same (cond (eqb kind valueKind) (found i) deleted) absent; looks = looks }))
+  says-found same kind h n = rw (not-false same h, eq-eqb kind valueKind n)
+
+module _ (xs k : List ℕ) (looks : ℕ) where
+  -- what is answered of what is said
+  abbrev pub answer : Looked → Answer Lookup
+  answer a = given (record { says = a; looks = looks })
+
+  pub said-none : (i : ℕ) → i < 1 → answer absent ≡ reading (saidAt xs k i) answer
+  said-none zero h = refl
+  said-none (suc i) h = absurd (omega arith)
+
+  pub said-bad : (i : ℕ) → 1 ≤ i → {o : ℕ} → bad o ≡ nodeAt xs i → refused damaged ≡ reading (saidAt xs k i) answer
+  said-bad zero h e = absurd (omega arith)
+  said-bad (suc i) h e = rw (← e)
+
+  pub said-node : (i : ℕ) → 1 ≤ i → {n : Node} → got n ≡ nodeAt xs i → {same : Bool} → same ≡ isEqual (compareKeys (part xs (n .parts .keyed .keyAt) (n .parts .keyed .keyAt + n .parts .keyed .keyLen - n .parts .keyed .keyAt)) k)
+      → {kind : ℕ} → kind ≡ n .parts .keyed .tagIs % 256 → {r : Answer Lookup} → r ≡ answer (cond same (cond (eqb kind valueKind) (found i) deleted) absent) → r ≡ reading (saidAt xs k i) answer
+  said-node zero h e s t f = absurd (omega arith)
+  said-node (suc i) h {n} e s t f = let z : n .parts .keyed .keyAt + n .parts .keyed .keyLen - n .parts .keyed .keyAt ≡ n .parts .keyed .keyLen = omega arith in f ∙ rw (← e, s, z, t)
+
+-- ---- the tests of a lookup in their order
+
+module _ (xs k : List ℕ) (s : ℕ) {b : Bool} (header : b ≡ headerHolds xs) where
+  pub get-header : not b ≡ true → refused badImage ≡ get xs k s
+  unfolding get
+  get-header t = rw (sym header ∙ not-true b t)
+
+  module _ (good : not b ≡ false) {c : Bool} (number : c ≡ leb s maxNumber) where
+    holds : headerHolds xs ≡ true
+    holds = sym header ∙ not-false b good
+
+    pub get-number : not c ≡ true → refused badNumber ≡ get xs k s
+    unfolding get
+    get-number t = rw (holds, sym number ∙ not-true c t)
+
+    module _ (low : not c ≡ false) where
+      numbered : leb s maxNumber ≡ true
+      numbered = sym number ∙ not-false c low
+
+      pub get-key : maxKey < length k → refused longKey ≡ get xs k s
+      unfolding get
+      get-key t = rw (holds, numbered, lt-leb (length k) maxKey t)
+
+      pub get-ready : Header xs
+      get-ready = header-sound xs holds
+
+      module _ (short : length k ≤ maxKey) where
+        pub get-damaged : {o : ℕ} → bad o ≡ searched xs toStop k s → refused damaged ≡ get xs k s
+        unfolding get
+        get-damaged e = rw (holds, numbered, le-leb (length k) maxKey short, ← e)
+
+        pub get-hit : {x looks : ℕ} → got (hit x looks) ≡ searched xs toStop k s → {r : Answer Lookup} → r ≡ reading (saidAt xs k x) (answer xs k looks) → r ≡ get xs k s
+        unfolding get
+        get-hit e f = f ∙ rw (holds, numbered, le-leb (length k) maxKey short, ← e)
+
+        pub get-ends : {p x looks : ℕ} {prev : List ℕ} → got (ends p x looks prev) ≡ searched xs toStop k s → {r : Answer Lookup} → r ≡ reading (saidAt xs k x) (answer xs k looks) → r ≡ get xs k s
+        unfolding get
+        get-ends e f = f ∙ rw (holds, numbered, le-leb (length k) maxKey short, ← e)
+
+-- what the answer means follows from what it is
+pub gets : (xs k : List ℕ) (s : ℕ) (r : LookupAnswer) → lookupAs r ≡ get xs k s → Gets xs k s r
+gets xs k s r e = record { exact = e; rule = λ sound low short. let (a, f, t, l) = get-tells xs sound k s low short in (a, e ∙ f, t, l) }
+
+-- where a search ended, by the spot that the code was told
+pub told : (r : Searched) (v : Spot) {f : Read Found} → searchRead r ≡ f → r .spot ≡ v → spotRead v (r .prev) ≡ f
+told r v e s = ap (λ (t : Spot). spotRead t (r .prev)) (sym s) ∙ e
+
+pub hit-in : (xs k : List ℕ) (s : ℕ) {x looks : ℕ} → Header xs → got (hit x looks) ≡ searched xs toStop k s → InTable xs x
+hit-in xs k s h e = record { header = h; most = (search-stopped xs toStop k s e) .most }
+
+pub end-in : (xs k : List ℕ) (s : ℕ) {p x looks : ℕ} {prev : List ℕ} → Header xs → got (ends p x looks prev) ≡ searched xs toStop k s → InTable xs x
+end-in xs k s h e = record { header = h; most = (search-ended xs toStop k s e) .after-most }
