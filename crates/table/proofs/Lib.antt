@@ -5,3 +5,4 @@ pub mod Order
 pub mod EntryBytes
 pub mod Insertion
 pub mod NodeBytes
+pub mod Checking

@@ -2,3 +2,4 @@ pub mod KeyTypes
 pub mod Entries
 pub mod Insert
 pub mod Nodes
+pub mod Check

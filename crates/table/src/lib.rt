@@ -4,3 +4,4 @@ pub mod key_types; // key_types.rt: number, tag, lengths and order
 pub mod entries; // entries.rt: the bytes of an entry
 pub mod insert; // insert.rt: writing to an image
 pub mod nodes; // nodes.rt: header and nodes of an image
+pub mod check; // check.rt: whether an image is sound
