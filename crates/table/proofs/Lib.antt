@@ -10,3 +10,4 @@ pub mod Looking
 pub mod Inserting
 pub mod Answers
 pub mod Lookups
+pub mod Checking

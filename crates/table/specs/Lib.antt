@@ -5,3 +5,4 @@ pub mod Nodes
 pub mod Skipmap
 pub mod Refusals
 pub mod Memtable
+pub mod Check

@@ -4,7 +4,7 @@ ghost use Prim.Native.Nat.{_+_, _≤_};
 ghost use lib.ListN.{length};
 ghost use lib.Seq.{sets};
 ghost use Rattle.image.specs.Limits.{maxKey, maxValue};
-ghost use Rattle.image.specs.Entries.{encode, keyedAt, restAt};
+ghost use Rattle.image.specs.Entries.{encode, keyedAt, restAt, keyIn};
 ghost use Rattle.table.specs.Entries.{entry, EntrySize, Writable, keyedOf, keyedRead, KeyedFits, partsRead, PartsFits};
 use crate::key_types::LenRead;
 use crate::key_types::Tag;
@@ -84,6 +84,16 @@ pub fn keyed_at(s: &[u8], o: usize, end: usize) -> KeyedRead
             })
         }
     }
+}
+
+// The key of an entry, where it stands.
+pub fn key_in(s: &[u8], k: Keyed) -> &[u8]
+    requires { ⌜ (k .«key_at») + (k .«key_len») ≤ length (now s) ⌝ }
+    ensures { λ r. ⌜ now r ≡ keyIn (now (s .entry)) (keyedOf k) ⌝ }
+{
+    let at = k.key_at;
+    let end = at + k.key_len;
+    &s[at..end]
 }
 
 // Where the parts of an entry stand.

@@ -12,6 +12,13 @@ pub fn wide(x: u8) -> usize
     x as usize
 }
 
+// A word as a number of the machine.
+pub fn wide_word(x: u32) -> usize
+    ensures { λ r. ⌜ r ≡ x ⌝ }
+{
+    x as usize
+}
+
 // The u32 at o, low byte first.
 pub fn get_word(s: &[u8], o: usize) -> usize
     requires { ⌜ o + 4 ≤ length (now s) ⌝ }

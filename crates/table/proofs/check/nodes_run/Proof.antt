@@ -1,0 +1,74 @@
+-- `check::nodes_run`: one node a turn, each where the one before it ends.
+use borrow.Author.Needs.{needs}
+use Rattle.table.proofs.Checking.{Passing, pass-begins, pass-ends, pass-apart, pass-bad, pass-on}
+use Rattle.table.proofs.check.nodes_run.Statement.{statement}
+use Rattle.table.proofs.check.nodes_run.Tie as tie
+
+abbrev Inv-loop : tie.InvT-loop
+Inv-loop s used left₀ i₀ end₀ left i end = Passing s left i end
+
+abbrev μ-loop : tie.MeasureT-loop
+μ-loop s used left₀ i₀ end₀ left i end = left
+
+free-requires : tie.Need-free-requires Inv-loop μ-loop
+free-requires c κs = search needs
+
+count-requires : tie.Need-count-requires Inv-loop μ-loop
+count-requires c κs = search needs
+
+loop-holds : tie.Need-loop-holds Inv-loop μ-loop
+loop-holds c = pass-begins _ (c .count .ensures .0)
+
+slot-requires : tie.Need-slot-requires Inv-loop μ-loop
+slot-requires c κs = search needs
+
+returns : tie.Need-returns Inv-loop μ-loop
+returns c = pass-apart _ (c .before .before .before .loop .inv) (c .before .before .loop-test .taken) (c .before .slot .ensures .0) (c .if1 .taken)
+
+node-at-requires : tie.Need-node-at-requires Inv-loop μ-loop
+node-at-requires c κs = search needs
+
+enum-known-node : tie.Need-enum-known-node Inv-loop μ-loop
+enum-known-node c = search needs
+
+enum-told : tie.Need-enum-told Inv-loop μ-loop
+enum-told c = search needs
+
+returns-2 : tie.Need-returns-2 Inv-loop μ-loop
+returns-2 c = let d = c .before .before .before in pass-bad _ (d .before .before .before .loop .inv) (d .before .before .loop-test .taken) (d .before .slot .ensures .0) (d .if1 .left) (d .before .before .before .before .before .free .ensures .0) (rw (c .enum-told .given .1) at (c .before .before .node-at .ensures))
+
+add-i : tie.Need-add-i Inv-loop μ-loop
+add-i c = search needs
+
+sub-left : tie.Need-sub-left Inv-loop μ-loop
+sub-left c = search needs
+
+loop-less : tie.Need-loop-less Inv-loop μ-loop
+loop-less c = search needs
+
+loop-again : tie.Need-loop-again Inv-loop μ-loop
+loop-again c = let d = c .before .before .before .before in pass-on _ (d .before .before .before .loop .inv) (d .before .before .loop-test .taken) (d .before .slot .ensures .0) (d .if1 .left) (d .before .before .before .before .before .free .ensures .0) (rw (c .before .node .given .1) at (c .before .before .before .node-at .ensures))
+
+returns-3 : tie.Need-returns-3 Inv-loop μ-loop
+returns-3 c = pass-ends _ (c .before .loop .inv) (c .loop-test .left) (c .before .before .before .free .ensures .0)
+
+pub nodes-run-spec : {M : Type 1} → statement M
+nodes-run-spec =
+    tie.close
+    (tie.spec
+    Inv-loop
+    μ-loop
+    free-requires
+    count-requires
+    loop-holds
+    slot-requires
+    returns
+    node-at-requires
+    enum-known-node
+    enum-told
+    returns-2
+    add-i
+    sub-left
+    loop-less
+    loop-again
+    returns-3)
