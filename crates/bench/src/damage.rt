@@ -1,0 +1,154 @@
+// Images that something has written over. Every call on them returns, and a refusal keeps every byte.
+use crate::answers::Answer;
+use crate::answers::bounded_case;
+use crate::answers::case;
+use table::check::check;
+use table::key_types::Tag;
+use table::memtable::add;
+use table::memtable::fresh;
+use table::memtable::get;
+ghost use Prim.Native.Nat.{_<_};
+
+// The lines of an image whose header does not hold.
+fn bad_header(name: &[u8], image: &mut [u8], before: &[u8]) {
+    case(
+        name,
+        b"get",
+        Answer::Refused(1),
+        Answer::of_get(get(image, b"a", 1)),
+    );
+    case(
+        name,
+        b"check",
+        Answer::NotSound,
+        Answer::of_check(check(image)),
+    );
+    let added = add(image, b"b", 1, Tag::VALUE, b"y", 1);
+    case(
+        name,
+        b"add",
+        Answer::Refused(1),
+        Answer::of_add(added, before, image),
+    );
+}
+
+// The image of P11, with a byte written over.
+fn overwritten(at: usize, byte: u8) -> [u8; 92]
+    requires { ⌜ at < 92 ⌝ }
+{
+    let mut image = [0u8; 92];
+    fresh(&mut image);
+    add(&mut image, b"a", 1, Tag::VALUE, b"x", 1);
+    image[at] = byte;
+    image
+}
+
+// The lines of a header with one byte written over: 0 is in the length, 8 in the first free byte, 12 in the level count.
+fn header(name: &[u8], at: usize, byte: u8)
+    requires { ⌜ at < 92 ⌝ }
+{
+    let mut image = overwritten(at, byte);
+    let before = image;
+    bad_header(name, &mut image, &before);
+}
+
+// One byte of the image is not lent.
+fn cut_off() {
+    let mut image = overwritten(0, 92);
+    let before = image;
+    bad_header(
+        b"91 bytes of an image of 92",
+        &mut image[0..91],
+        &before[0..91],
+    );
+}
+
+pub fn headers() {
+    cut_off();
+    header(b"length field 93 in 92 bytes", 0, 93);
+    header(b"F = 63", 8, 63);
+    header(b"F = 89 above L - 4n = 88", 8, 89);
+    header(b"level count 11", 12, 11);
+}
+
+// A fresh image of the largest length, with this count written over its own.
+fn counted(low: u8, high: u8) -> [u8; 65536] {
+    let mut image = [0u8; 65536];
+    fresh(&mut image);
+    image[4] = low;
+    image[5] = high;
+    image
+}
+
+// The largest count is within the limits, and one node more is too many.
+pub fn counts() {
+    let mut image = counted(1, 16);
+    let before = image;
+    bad_header(b"n = 4,097", &mut image, &before);
+    let mut image = counted(0, 16);
+    let before = image;
+    let added = add(&mut image, b"b", 1, Tag::VALUE, b"y", 1);
+    case(
+        b"n = 4,096, no node linked",
+        b"add",
+        Answer::Refused(7),
+        Answer::of_add(added, &before, &image),
+    );
+}
+
+// The lines of a link above the count; the key is one whose search meets it.
+fn link_above(name: &[u8], image: [u8; 92], key: &[u8]) {
+    case(
+        name,
+        b"get",
+        Answer::Refused(9),
+        Answer::of_get(get(&image, key, 1)),
+    );
+    case(
+        name,
+        b"check",
+        Answer::NotSound,
+        Answer::of_check(check(&image)),
+    );
+    let mut after = image;
+    let added = add(&mut after, key, 2, Tag::VALUE, b"y", 1);
+    case(
+        name,
+        b"add",
+        Answer::Refused(9),
+        Answer::of_add(added, &image, &after),
+    );
+}
+
+// The lines of a node that is linked to itself: a search that passes it meets it again.
+fn link_to_itself(image: &[u8]) {
+    case(
+        b"node 1 linked to itself",
+        b"check",
+        Answer::NotSound,
+        Answer::of_check(check(image)),
+    );
+    bounded_case(
+        b"node 1 linked to itself, key a",
+        13,
+        Answer::of_get(get(image, b"a", 1)),
+    );
+    bounded_case(
+        b"node 1 linked to itself, key b",
+        13,
+        Answer::of_get(get(image, b"b", 1)),
+    );
+    bounded_case(
+        b"node 1 linked to itself, key A",
+        13,
+        Answer::of_get(get(image, b"A", 1)),
+    );
+}
+
+// In the image of P11 the head's lowest link is at 16, and that of node 1 at 72.
+pub fn links() {
+    let image = overwritten(72, 1);
+    link_to_itself(&image);
+    link_above(b"node 1 linked to node 2 of 1", overwritten(72, 2), b"b");
+    link_above(b"head linked to node 2 of 1", overwritten(16, 2), b"a");
+}
