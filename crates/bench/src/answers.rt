@@ -7,7 +7,7 @@ use table::memtable::Lookup;
 // Places of the columns: the case with its call, and an answer.
 const CASE_WIDTH: usize = 42;
 
-const ANSWER_WIDTH: usize = 26;
+const ANSWER_WIDTH: usize = 25;
 
 pub enum Answer {
     Done,
@@ -119,6 +119,7 @@ impl Answer {
 
     // Writes an answer into its column.
     fn show(self) {
+        show::blanks(1);
         let left = self.words();
         show::blanks(left);
     }
@@ -179,7 +180,6 @@ fn start(name: &[u8], call: &[u8]) {
     let left = show::text(call, left);
     let left = show::text(b" ", left);
     show::dots(left);
-    show::text(b" ", 0);
 }
 
 // The line of a case: what document 01 expects of the call, what came out, and whether they are the same.
@@ -190,10 +190,28 @@ pub fn case(name: &[u8], call: &[u8], expected: Answer, got: Answer) {
     show::verdict(expected.same(got));
 }
 
+pub fn fresh_case(name: &[u8], expected: Answer, got: Freshened) {
+    case(name, b"fresh", expected, Answer::of_fresh(got));
+}
+
+// The line of an addition, with the image before it and after it.
+pub fn add_case(name: &[u8], expected: Answer, got: Added, before: &[u8], after: &[u8]) {
+    case(name, b"add", expected, Answer::of_add(got, before, after));
+}
+
+pub fn get_case(name: &[u8], expected: Answer, got: Lookup) {
+    case(name, b"get", expected, Answer::of_get(got));
+}
+
+pub fn check_case(name: &[u8], expected: Answer, sound: bool) {
+    case(name, b"check", expected, Answer::of_check(sound));
+}
+
 // The line of a lookup on a damaged image: document 01 allows refusal 9, or an answer made from what was read.
-pub fn bounded_case(name: &[u8], most: usize, got: Answer) {
+pub fn bounded_case(name: &[u8], most: usize, r: Lookup) {
+    let got = Answer::of_get(r);
     start(name, b"get");
-    let left = counted(b"9, or ", most, b" looks or fewer");
+    let left = counted(b" 9, or ", most, b" looks or fewer");
     show::blanks(left);
     got.show();
     show::verdict(got.bounded(most));
@@ -202,14 +220,13 @@ pub fn bounded_case(name: &[u8], most: usize, got: Answer) {
 // The heading above the lines.
 pub fn heading() {
     show::blanks(show::text(b"case: call", CASE_WIDTH));
-    show::text(b" ", 0);
-    show::blanks(show::text(b"document 01", ANSWER_WIDTH));
-    show::text(b"came out\n", 0);
+    show::blanks(show::text(b" document 01", ANSWER_WIDTH));
+    show::text(b"  came out\n", 0);
 }
 
 // The two lines of a case that is about bytes: those that document 01 lists, and those that the image holds.
 pub fn bytes_case(name: &[u8], expected: &[u8], got: &[u8], group: usize) {
-    start(name, b"expected");
+    start(name, b"document 01");
     show::hex(expected, group);
     show::text(b"\n", 0);
     start(name, b"came out");

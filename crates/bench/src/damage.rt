@@ -1,7 +1,9 @@
 // Images that something has written over. Every call on them returns, and a refusal keeps every byte.
 use crate::answers::Answer;
+use crate::answers::add_case;
 use crate::answers::bounded_case;
-use crate::answers::case;
+use crate::answers::check_case;
+use crate::answers::get_case;
 use table::check::check;
 use table::key_types::Tag;
 use table::memtable::add;
@@ -11,25 +13,10 @@ ghost use Prim.Native.Nat.{_<_};
 
 // The lines of an image whose header does not hold.
 fn bad_header(name: &[u8], image: &mut [u8], before: &[u8]) {
-    case(
-        name,
-        b"get",
-        Answer::Refused(1),
-        Answer::of_get(get(image, b"a", 1)),
-    );
-    case(
-        name,
-        b"check",
-        Answer::NotSound,
-        Answer::of_check(check(image)),
-    );
+    get_case(name, Answer::Refused(1), get(image, b"a", 1));
+    check_case(name, Answer::NotSound, check(image));
     let added = add(image, b"b", 1, Tag::VALUE, b"y", 1);
-    case(
-        name,
-        b"add",
-        Answer::Refused(1),
-        Answer::of_add(added, before, image),
-    );
+    add_case(name, Answer::Refused(1), added, before, image);
 }
 
 // The image of P11, with a byte written over.
@@ -88,61 +75,30 @@ pub fn counts() {
     let mut image = counted(0, 16);
     let before = image;
     let added = add(&mut image, b"b", 1, Tag::VALUE, b"y", 1);
-    case(
+    add_case(
         b"n = 4,096, no node linked",
-        b"add",
         Answer::Refused(7),
-        Answer::of_add(added, &before, &image),
+        added,
+        &before,
+        &image,
     );
 }
 
 // The lines of a link above the count; the key is one whose search meets it.
 fn link_above(name: &[u8], image: [u8; 92], key: &[u8]) {
-    case(
-        name,
-        b"get",
-        Answer::Refused(9),
-        Answer::of_get(get(&image, key, 1)),
-    );
-    case(
-        name,
-        b"check",
-        Answer::NotSound,
-        Answer::of_check(check(&image)),
-    );
+    get_case(name, Answer::Refused(9), get(&image, key, 1));
+    check_case(name, Answer::NotSound, check(&image));
     let mut after = image;
     let added = add(&mut after, key, 2, Tag::VALUE, b"y", 1);
-    case(
-        name,
-        b"add",
-        Answer::Refused(9),
-        Answer::of_add(added, &image, &after),
-    );
+    add_case(name, Answer::Refused(9), added, &image, &after);
 }
 
-// The lines of a node that is linked to itself: a search that passes it meets it again.
+// The lines of a node that is linked to itself: a search that passes it meets it again. The table's count is 1.
 fn link_to_itself(image: &[u8]) {
-    case(
-        b"node 1 linked to itself",
-        b"check",
-        Answer::NotSound,
-        Answer::of_check(check(image)),
-    );
-    bounded_case(
-        b"node 1 linked to itself, key a",
-        13,
-        Answer::of_get(get(image, b"a", 1)),
-    );
-    bounded_case(
-        b"node 1 linked to itself, key b",
-        13,
-        Answer::of_get(get(image, b"b", 1)),
-    );
-    bounded_case(
-        b"node 1 linked to itself, key A",
-        13,
-        Answer::of_get(get(image, b"A", 1)),
-    );
+    check_case(b"node 1 linked to itself", Answer::NotSound, check(image));
+    bounded_case(b"node 1 linked to itself, key a", 13, get(image, b"a", 1));
+    bounded_case(b"node 1 linked to itself, key b", 13, get(image, b"b", 1));
+    bounded_case(b"node 1 linked to itself, key A", 13, get(image, b"A", 1));
 }
 
 // In the image of P11 the head's lowest link is at 16, and that of node 1 at 72.

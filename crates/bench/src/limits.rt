@@ -1,6 +1,7 @@
 // The limits of an image's length and of an entry: on the limit, and one past it.
 use crate::answers::Answer;
-use crate::answers::case;
+use crate::answers::add_case;
+use crate::answers::fresh_case;
 use table::key_types::Number;
 use table::key_types::Tag;
 use table::memtable::add;
@@ -8,63 +9,79 @@ use table::memtable::fresh;
 
 pub fn lengths() {
     let mut too_short = [0u8; 63];
-    let got = Answer::of_fresh(fresh(&mut too_short));
-    case(b"L = 63", b"fresh", Answer::Refused(1), got);
+    fresh_case(b"L = 63", Answer::Refused(1), fresh(&mut too_short));
     let mut shortest = [0u8; 64];
-    let got = Answer::of_fresh(fresh(&mut shortest));
-    case(b"L = 64", b"fresh", Answer::Done, got);
+    fresh_case(b"L = 64", Answer::Done, fresh(&mut shortest));
     let mut longest = [0u8; 65536];
-    let got = Answer::of_fresh(fresh(&mut longest));
-    case(b"L = 65,536", b"fresh", Answer::Done, got);
+    fresh_case(b"L = 65,536", Answer::Done, fresh(&mut longest));
     let mut too_long = [0u8; 65537];
-    let got = Answer::of_fresh(fresh(&mut too_long));
-    case(b"L = 65,537", b"fresh", Answer::Refused(1), got);
+    fresh_case(b"L = 65,537", Answer::Refused(1), fresh(&mut too_long));
 }
 
-// What an addition to a fresh table answers that has room for the largest entry.
-fn first_add(key: &[u8], number: u64, kind: u8, value: &[u8], height: usize) -> Answer {
+// The line of an addition to a fresh table that has room for the largest entry.
+fn first_add(
+    name: &[u8],
+    expected: Answer,
+    key: &[u8],
+    number: u64,
+    kind: u8,
+    value: &[u8],
+    height: usize,
+) {
     let mut image = [0u8; 8192];
     fresh(&mut image);
     let before = image;
     let added = add(&mut image, key, number, kind, value, height);
-    Answer::of_add(added, &before, &image)
+    add_case(name, expected, added, &before, &image);
+}
+
+// a@1=x in a node of some height.
+fn tall(name: &[u8], expected: Answer, height: usize) {
+    first_add(name, expected, b"a", 1, Tag::VALUE, b"x", height);
+}
+
+// A value x at number 1 with some key.
+fn keyed(name: &[u8], expected: Answer, key: &[u8]) {
+    first_add(name, expected, key, 1, Tag::VALUE, b"x", 1);
+}
+
+// Some value at number 1 with the key a.
+fn valued(name: &[u8], expected: Answer, value: &[u8]) {
+    first_add(name, expected, b"a", 1, Tag::VALUE, value, 1);
+}
+
+// The key a with the value x, some number and some type.
+fn tagged(name: &[u8], expected: Answer, number: u64, kind: u8) {
+    first_add(name, expected, b"a", number, kind, b"x", 1);
 }
 
 pub fn heights() {
-    let got = first_add(b"a", 1, Tag::VALUE, b"x", 0);
-    case(b"height 0", b"add", Answer::Refused(6), got);
-    let got = first_add(b"a", 1, Tag::VALUE, b"x", 1);
-    case(b"height 1", b"add", Answer::Node(1), got);
-    let got = first_add(b"a", 1, Tag::VALUE, b"x", 12);
-    case(b"height 12", b"add", Answer::Node(1), got);
-    let got = first_add(b"a", 1, Tag::VALUE, b"x", 13);
-    case(b"height 13", b"add", Answer::Refused(6), got);
+    tall(b"height 0", Answer::Refused(6), 0);
+    tall(b"height 1", Answer::Node(1), 1);
+    tall(b"height 12", Answer::Node(1), 12);
+    tall(b"height 13", Answer::Refused(6), 13);
 }
 
 pub fn keys_and_values() {
     let key = [b'k'; 1024];
-    let got = first_add(&key, 1, Tag::VALUE, b"x", 1);
-    case(b"key of 1,024 bytes", b"add", Answer::Node(1), got);
-    let long_key = [b'k'; 1025];
-    let got = first_add(&long_key, 1, Tag::VALUE, b"x", 1);
-    case(b"key of 1,025 bytes", b"add", Answer::Refused(4), got);
+    keyed(b"key of 1,024 bytes", Answer::Node(1), &key);
+    let key = [b'k'; 1025];
+    keyed(b"key of 1,025 bytes", Answer::Refused(4), &key);
     let value = [b'v'; 4096];
-    let got = first_add(b"a", 1, Tag::VALUE, &value, 1);
-    case(b"value of 4,096 bytes", b"add", Answer::Node(1), got);
-    let long_value = [b'v'; 4097];
-    let got = first_add(b"a", 1, Tag::VALUE, &long_value, 1);
-    case(b"value of 4,097 bytes", b"add", Answer::Refused(5), got);
+    valued(b"value of 4,096 bytes", Answer::Node(1), &value);
+    let value = [b'v'; 4097];
+    valued(b"value of 4,097 bytes", Answer::Refused(5), &value);
 }
 
 pub fn numbers_and_types() {
-    let got = first_add(b"a", Number::MAX, Tag::VALUE, b"x", 1);
-    case(b"number 2^56 - 1", b"add", Answer::Node(1), got);
-    let got = first_add(b"a", Number::MAX + 1, Tag::VALUE, b"x", 1);
-    case(b"number 2^56", b"add", Answer::Refused(3), got);
-    let got = first_add(b"a", 1, Tag::DELETION, b"", 1);
-    case(b"type 0", b"add", Answer::Node(1), got);
-    let got = first_add(b"a", 1, Tag::VALUE, b"x", 1);
-    case(b"type 1", b"add", Answer::Node(1), got);
-    let got = first_add(b"a", 1, 2, b"x", 1);
-    case(b"type 2", b"add", Answer::Refused(2), got);
+    tagged(b"number 2^56 - 1", Answer::Node(1), Number::MAX, Tag::VALUE);
+    tagged(
+        b"number 2^56",
+        Answer::Refused(3),
+        Number::MAX + 1,
+        Tag::VALUE,
+    );
+    tagged(b"type 0", Answer::Node(1), 1, Tag::DELETION);
+    tagged(b"type 1", Answer::Node(1), 1, Tag::VALUE);
+    tagged(b"type 2", Answer::Refused(2), 1, 2);
 }

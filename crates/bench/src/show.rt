@@ -60,26 +60,26 @@ fn hex_byte(b: u8) {
     io::write_all(1, &digits);
 }
 
-// Writes bytes in hex, with a blank behind each group of so many.
+// Writes bytes in hex, with a blank before each group of so many.
 pub fn hex(s: &[u8], group: usize) {
     let mut i = 0;
-    let mut left = group;
+    let mut left = 0;
     while i < s.len() {
-        hex_byte(s[i]);
-        i += 1;
-        left = less(left, 1);
         if left < 1 {
             blanks(1);
             left = group;
         }
+        hex_byte(s[i]);
+        left = less(left, 1);
+        i += 1;
     }
 }
 
 // Ends a line.
 pub fn verdict(ok: bool) {
     if ok {
-        io::write_all(1, b"ok\n");
+        io::write_all(1, b" ok\n");
     } else {
-        io::write_all(1, b"WRONG\n");
+        io::write_all(1, b" WRONG\n");
     }
 }

@@ -1,7 +1,10 @@
 // Whole tables: the first lookup, the empty key, a full table, and the image of document 01's P11.
 use crate::answers::Answer;
+use crate::answers::add_case;
 use crate::answers::bytes_case;
 use crate::answers::case;
+use crate::answers::check_case;
+use crate::answers::get_case;
 use table::check::check;
 use table::key_types::Number;
 use table::key_types::Tag;
@@ -14,29 +17,22 @@ use table::memtable::get;
 pub fn fresh_table() {
     let mut image = [0xa5u8; 64];
     fresh(&mut image);
-    let sound = Answer::of_check(check(&image));
-    case(b"fresh table", b"check", Answer::Sound, sound);
-    let got = Answer::of_get(get(&image, b"", 0));
-    case(
+    check_case(b"fresh table", Answer::Sound, check(&image));
+    get_case(
         b"fresh table, key \"\" at 0",
-        b"get",
         Answer::Absent { looks: 12 },
-        got,
+        get(&image, b"", 0),
     );
-    let got = Answer::of_get(get(&image, b"a", 1));
-    case(
+    get_case(
         b"fresh table, key a at 1",
-        b"get",
         Answer::Absent { looks: 12 },
-        got,
+        get(&image, b"a", 1),
     );
     let key = [0xffu8; 1024];
-    let got = Answer::of_get(get(&image, &key, Number::MAX));
-    case(
+    get_case(
         b"fresh table, FF x 1,024 at 2^56 - 1",
-        b"get",
         Answer::Absent { looks: 12 },
-        got,
+        get(&image, &key, Number::MAX),
     );
 }
 
@@ -44,35 +40,32 @@ pub fn fresh_table() {
 pub fn lookup_limits() {
     let mut image = [0u8; 64];
     fresh(&mut image);
-    let got = Answer::of_get(get(&image, b"a", Number::MAX + 1));
-    case(b"snapshot 2^56", b"get", Answer::Refused(3), got);
+    get_case(
+        b"snapshot 2^56",
+        Answer::Refused(3),
+        get(&image, b"a", Number::MAX + 1),
+    );
     let key = [b'k'; 1025];
-    let got = Answer::of_get(get(&image, &key, 1));
-    case(b"key of 1,025 bytes", b"get", Answer::Refused(4), got);
+    get_case(
+        b"key of 1,025 bytes",
+        Answer::Refused(4),
+        get(&image, &key, 1),
+    );
 }
 
-// The lookups of a table that holds the empty key with number 1.
+// The lookups of a table that holds the empty key with number 1. Below its number the search passes its node: one look more.
 fn empty_key_held(image: &[u8]) {
-    let got = Answer::of_get(get(image, b"", 1));
-    case(
+    get_case(
         b"empty key, at its number",
-        b"get",
         Answer::Found { node: 1, looks: 12 },
-        got,
+        get(image, b"", 1),
     );
-    let got = Answer::of_get(get(image, b"", 0));
-    case(
+    get_case(
         b"empty key, below its number",
-        b"get",
-        Answer::Absent { looks: 12 },
-        got,
+        Answer::Absent { looks: 13 },
+        get(image, b"", 0),
     );
-    case(
-        b"empty key",
-        b"check",
-        Answer::Sound,
-        Answer::of_check(check(image)),
-    );
+    check_case(b"empty key", Answer::Sound, check(image));
 }
 
 pub fn empty_key() {
@@ -80,12 +73,7 @@ pub fn empty_key() {
     fresh(&mut image);
     let before = image;
     let added = add(&mut image, b"", 1, Tag::VALUE, b"x", 1);
-    case(
-        b"empty key",
-        b"add",
-        Answer::Node(1),
-        Answer::of_add(added, &before, &image),
-    );
+    add_case(b"empty key", Answer::Node(1), added, &before, &image);
     empty_key_held(&image);
 }
 
@@ -115,7 +103,7 @@ fn fill(image: &mut [u8]) -> u8 {
 fn full_add(name: &[u8], full: [u8; 148], key: &[u8], kind: u8, expected: Answer) {
     let mut image = full;
     let added = add(&mut image, key, 1, kind, b"x", 1);
-    case(name, b"add", expected, Answer::of_add(added, &full, &image));
+    add_case(name, expected, added, &full, &image);
 }
 
 // Three entries of 28 bytes each, slot and all, fill 64 + 3 * 28 bytes exactly. A duplicate is one, room or not, whatever its type.
@@ -150,35 +138,20 @@ pub fn full_table() {
         Tag::DELETION,
         Answer::Refused(8),
     );
-    case(
-        b"full table",
-        b"check",
-        Answer::Sound,
-        Answer::of_check(check(&image)),
-    );
+    check_case(b"full table", Answer::Sound, check(&image));
 }
 
 // Every byte of the image of P11, part by part as document 01 lists them.
 fn p11_bytes(image: [u8; 92]) {
     let header = b"\x5C\0\0\0\x01\0\0\0\x58\0\0\0\x0C\0\0\0\x01\0\0\0";
-    bytes_case(b"P11: length to first link", header, &image[0..20], 4);
+    bytes_case(b"P11, first five words", header, &image[0..20], 4);
     let links = [0u8; 44];
-    bytes_case(
-        b"P11: the other eleven head links",
-        &links,
-        &image[20..64],
-        4,
-    );
+    bytes_case(b"P11, eleven head links", &links, &image[20..64], 4);
     let node = b"\x01\0\0\0\x0C\0\0\0\0\0\0\0";
-    bytes_case(
-        b"P11: node 1: height, length, link",
-        node,
-        &image[64..76],
-        4,
-    );
+    bytes_case(b"P11, words of node 1", node, &image[64..76], 4);
     let entry = b"\x09\x61\x01\x01\0\0\0\0\0\0\x01\x78";
-    bytes_case(b"P11: node 1: entry", entry, &image[76..88], 1);
-    bytes_case(b"P11: slot 1", b"\x40\0\0\0", &image[88..92], 4);
+    bytes_case(b"P11, entry of node 1", entry, &image[76..88], 1);
+    bytes_case(b"P11, slot 1", b"\x40\0\0\0", &image[88..92], 4);
 }
 
 pub fn p11() {
@@ -186,11 +159,12 @@ pub fn p11() {
     fresh(&mut image);
     let before = image;
     let added = add(&mut image, b"a", 1, Tag::VALUE, b"x", 1);
-    case(
-        b"P11: L = 92, a@1=x, height 1",
-        b"add",
+    add_case(
+        b"P11, L = 92, a@1=x, height 1",
         Answer::Node(1),
-        Answer::of_add(added, &before, &image),
+        added,
+        &before,
+        &image,
     );
     p11_bytes(image);
 }
@@ -201,10 +175,11 @@ pub fn p12() {
     fresh(&mut image);
     let before = image;
     let added = add(&mut image, b"a", 1, Tag::VALUE, b"x", 1);
-    case(
-        b"P12: L = 91, a@1=x, height 1",
-        b"add",
+    add_case(
+        b"P12, L = 91, a@1=x, height 1",
         Answer::Refused(7),
-        Answer::of_add(added, &before, &image),
+        added,
+        &before,
+        &image,
     );
 }
