@@ -1,8 +1,11 @@
 // What a call answered, or is to answer by document 01, and the line that sets the two side by side.
 use crate::show;
+use table::check::check;
 use table::memtable::Added;
 use table::memtable::Freshened;
 use table::memtable::Lookup;
+use table::memtable::fresh;
+use table::memtable::get;
 
 // Places of the columns: the case with its call, and an answer.
 const CASE_WIDTH: usize = 42;
@@ -190,8 +193,9 @@ pub fn case(name: &[u8], call: &[u8], expected: Answer, got: Answer) {
     show::verdict(expected.same(got));
 }
 
-pub fn fresh_case(name: &[u8], expected: Answer, got: Freshened) {
-    case(name, b"fresh", expected, Answer::of_fresh(got));
+// The line of making a table fresh.
+pub fn fresh_case(name: &[u8], expected: Answer, image: &mut [u8]) {
+    case(name, b"fresh", expected, Answer::of_fresh(fresh(image)));
 }
 
 // The line of an addition, with the image before it and after it.
@@ -199,22 +203,30 @@ pub fn add_case(name: &[u8], expected: Answer, got: Added, before: &[u8], after:
     case(name, b"add", expected, Answer::of_add(got, before, after));
 }
 
-pub fn get_case(name: &[u8], expected: Answer, got: Lookup) {
-    case(name, b"get", expected, Answer::of_get(got));
-}
-
-pub fn check_case(name: &[u8], expected: Answer, sound: bool) {
-    case(name, b"check", expected, Answer::of_check(sound));
+// The line of a lookup.
+pub fn get_case(name: &[u8], expected: Answer, image: &[u8], key: &[u8], snapshot: u64) {
+    case(
+        name,
+        b"get",
+        expected,
+        Answer::of_get(get(image, key, snapshot)),
+    );
 }
 
 // The line of a lookup on a damaged image: document 01 allows refusal 9, or an answer made from what was read.
-pub fn bounded_case(name: &[u8], most: usize, r: Lookup) {
-    let got = Answer::of_get(r);
+pub fn bounded_case(name: &[u8], most: usize, image: &[u8], key: &[u8], snapshot: u64) {
+    let got = Answer::of_get(get(image, key, snapshot));
     start(name, b"get");
-    let left = counted(b" 9, or ", most, b" looks or fewer");
+    show::blanks(1);
+    let left = counted(b"9, or ", most, b" looks or fewer");
     show::blanks(left);
     got.show();
     show::verdict(got.bounded(most));
+}
+
+// The line of the check.
+pub fn check_case(name: &[u8], expected: Answer, image: &[u8]) {
+    case(name, b"check", expected, Answer::of_check(check(image)));
 }
 
 // The heading above the lines.

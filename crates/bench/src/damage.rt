@@ -4,17 +4,15 @@ use crate::answers::add_case;
 use crate::answers::bounded_case;
 use crate::answers::check_case;
 use crate::answers::get_case;
-use table::check::check;
 use table::key_types::Tag;
 use table::memtable::add;
 use table::memtable::fresh;
-use table::memtable::get;
 ghost use Prim.Native.Nat.{_<_};
 
 // The lines of an image whose header does not hold.
 fn bad_header(name: &[u8], image: &mut [u8], before: &[u8]) {
-    get_case(name, Answer::Refused(1), get(image, b"a", 1));
-    check_case(name, Answer::NotSound, check(image));
+    get_case(name, Answer::Refused(1), image, b"a", 1);
+    check_case(name, Answer::NotSound, image);
     let added = add(image, b"b", 1, Tag::VALUE, b"y", 1);
     add_case(name, Answer::Refused(1), added, before, image);
 }
@@ -86,8 +84,8 @@ pub fn counts() {
 
 // The lines of a link above the count; the key is one whose search meets it.
 fn link_above(name: &[u8], image: [u8; 92], key: &[u8]) {
-    get_case(name, Answer::Refused(9), get(&image, key, 1));
-    check_case(name, Answer::NotSound, check(&image));
+    get_case(name, Answer::Refused(9), &image, key, 1);
+    check_case(name, Answer::NotSound, &image);
     let mut after = image;
     let added = add(&mut after, key, 2, Tag::VALUE, b"y", 1);
     add_case(name, Answer::Refused(9), added, &image, &after);
@@ -95,10 +93,10 @@ fn link_above(name: &[u8], image: [u8; 92], key: &[u8]) {
 
 // The lines of a node that is linked to itself: a search that passes it meets it again. The table's count is 1.
 fn link_to_itself(image: &[u8]) {
-    check_case(b"node 1 linked to itself", Answer::NotSound, check(image));
-    bounded_case(b"node 1 linked to itself, key a", 13, get(image, b"a", 1));
-    bounded_case(b"node 1 linked to itself, key b", 13, get(image, b"b", 1));
-    bounded_case(b"node 1 linked to itself, key A", 13, get(image, b"A", 1));
+    check_case(b"node 1 linked to itself", Answer::NotSound, image);
+    bounded_case(b"node 1 linked to itself, key a", 13, image, b"a", 1);
+    bounded_case(b"node 1 linked to itself, key b", 13, image, b"b", 1);
+    bounded_case(b"node 1 linked to itself, key A", 13, image, b"A", 1);
 }
 
 // In the image of P11 the head's lowest link is at 16, and that of node 1 at 72.

@@ -9,13 +9,13 @@ use table::memtable::fresh;
 
 pub fn lengths() {
     let mut too_short = [0u8; 63];
-    fresh_case(b"L = 63", Answer::Refused(1), fresh(&mut too_short));
+    fresh_case(b"L = 63", Answer::Refused(1), &mut too_short);
     let mut shortest = [0u8; 64];
-    fresh_case(b"L = 64", Answer::Done, fresh(&mut shortest));
+    fresh_case(b"L = 64", Answer::Done, &mut shortest);
     let mut longest = [0u8; 65536];
-    fresh_case(b"L = 65,536", Answer::Done, fresh(&mut longest));
+    fresh_case(b"L = 65,536", Answer::Done, &mut longest);
     let mut too_long = [0u8; 65537];
-    fresh_case(b"L = 65,537", Answer::Refused(1), fresh(&mut too_long));
+    fresh_case(b"L = 65,537", Answer::Refused(1), &mut too_long);
 }
 
 // The line of an addition to a fresh table that has room for the largest entry.

@@ -5,34 +5,38 @@ use crate::answers::bytes_case;
 use crate::answers::case;
 use crate::answers::check_case;
 use crate::answers::get_case;
-use table::check::check;
 use table::key_types::Number;
 use table::key_types::Tag;
 use table::memtable::Added;
 use table::memtable::add;
 use table::memtable::fresh;
-use table::memtable::get;
 
 // A fresh table holds nothing, and each lookup looks at the head's twelve links.
 pub fn fresh_table() {
     let mut image = [0xa5u8; 64];
     fresh(&mut image);
-    check_case(b"fresh table", Answer::Sound, check(&image));
+    check_case(b"fresh table", Answer::Sound, &image);
     get_case(
         b"fresh table, key \"\" at 0",
         Answer::Absent { looks: 12 },
-        get(&image, b"", 0),
+        &image,
+        b"",
+        0,
     );
     get_case(
         b"fresh table, key a at 1",
         Answer::Absent { looks: 12 },
-        get(&image, b"a", 1),
+        &image,
+        b"a",
+        1,
     );
     let key = [0xffu8; 1024];
     get_case(
         b"fresh table, FF x 1,024 at 2^56 - 1",
         Answer::Absent { looks: 12 },
-        get(&image, &key, Number::MAX),
+        &image,
+        &key,
+        Number::MAX,
     );
 }
 
@@ -43,14 +47,12 @@ pub fn lookup_limits() {
     get_case(
         b"snapshot 2^56",
         Answer::Refused(3),
-        get(&image, b"a", Number::MAX + 1),
+        &image,
+        b"a",
+        Number::MAX + 1,
     );
     let key = [b'k'; 1025];
-    get_case(
-        b"key of 1,025 bytes",
-        Answer::Refused(4),
-        get(&image, &key, 1),
-    );
+    get_case(b"key of 1,025 bytes", Answer::Refused(4), &image, &key, 1);
 }
 
 // The lookups of a table that holds the empty key with number 1. Below its number the search passes its node: one look more.
@@ -58,14 +60,18 @@ fn empty_key_held(image: &[u8]) {
     get_case(
         b"empty key, at its number",
         Answer::Found { node: 1, looks: 12 },
-        get(image, b"", 1),
+        image,
+        b"",
+        1,
     );
     get_case(
         b"empty key, below its number",
         Answer::Absent { looks: 13 },
-        get(image, b"", 0),
+        image,
+        b"",
+        0,
     );
-    check_case(b"empty key", Answer::Sound, check(image));
+    check_case(b"empty key", Answer::Sound, image);
 }
 
 pub fn empty_key() {
@@ -138,7 +144,7 @@ pub fn full_table() {
         Tag::DELETION,
         Answer::Refused(8),
     );
-    check_case(b"full table", Answer::Sound, check(&image));
+    check_case(b"full table", Answer::Sound, &image);
 }
 
 // Every byte of the image of P11, part by part as document 01 lists them.
