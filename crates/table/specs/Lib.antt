@@ -6,3 +6,4 @@ pub mod Skipmap
 pub mod Refusals
 pub mod Memtable
 pub mod Check
+pub mod MemtableIter
