@@ -11,3 +11,4 @@ pub mod Inserting
 pub mod Answers
 pub mod Lookups
 pub mod Checking
+pub mod Cursors

@@ -1,3 +1,6 @@
+use Rattle.table.proofs.Lookups.{told}
+use Rattle.image.specs.Search.{toStop, hit, ends, standing}
+use Rattle.table.proofs.Cursors.{landed-damaged, landed}
 use borrow.Author.Needs.{needs}
 use Rattle.table.proofs.memtable_iter.at_or_after.Statement.{statement}
 use Rattle.table.proofs.memtable_iter.at_or_after.Tie as tie
@@ -32,15 +35,15 @@ cursor-at-requires-2 c κs = search needs
 
 -- src/memtable_iter.rt:88:1
 returns : tie.Need-returns
-returns c = ?
+returns c = let a = c .before .before .before .before .before .args in landed-damaged (a .s .now) toStop standing (a .key .now) (a .number) (told (c .before .before .search .result) _ (c .before .before .search .ensures) (c .enum-told .given .1))
 
 -- src/memtable_iter.rt:88:1
 returns-2 : tie.Need-returns-2
-returns-2 c = ?
+returns-2 c = let a = c .before .before .before .before .before .before .before .args in landed (a .s .now) toStop standing (a .key .now) (a .number) _ (told (c .before .before .before .before .search .result) _ (c .before .before .before .before .search .ensures) (c .before .before .spot .given .1)) (c .cursor-at .ensures)
 
 -- src/memtable_iter.rt:88:1
 returns-3 : tie.Need-returns-3
-returns-3 c = ?
+returns-3 c = let a = c .before .before .before .before .before .before .before .args in landed (a .s .now) toStop standing (a .key .now) (a .number) _ (told (c .before .before .before .before .search .result) _ (c .before .before .before .before .search .ensures) (c .before .before .spot2 .given .1)) (c .cursor-at2 .ensures)
 
 pub at-or-after-spec : {M : Type 1} → statement M
 at-or-after-spec =

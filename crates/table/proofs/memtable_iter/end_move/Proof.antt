@@ -1,3 +1,5 @@
+use Rattle.table.specs.MemtableIter.{foundAs}
+use mathlib.Core.Path.{_≡_, refl, sym, ap, _∙_}
 use borrow.Author.Needs.{needs}
 use Rattle.table.proofs.memtable_iter.end_move.Statement.{statement}
 use Rattle.table.proofs.memtable_iter.end_move.Tie as tie
@@ -14,11 +16,11 @@ enum-told c = search needs
 
 -- src/memtable_iter.rt:160:1
 returns : tie.Need-returns
-returns c = ?
+returns c = (sym (ap foundAs (c .before .found .given .1)), tt)
 
 -- src/memtable_iter.rt:160:1
 returns-2 : tie.Need-returns-2
-returns-2 c = ?
+returns-2 c = (sym (ap foundAs (c .enum-told .given .1)), refl)
 
 pub end-move-spec : {M : Type 1} → statement M
 end-move-spec = tie.close (tie.spec enum-known-found enum-told returns returns-2)

@@ -1,3 +1,6 @@
+use Rattle.table.proofs.Looking.{key-inside}
+use Rattle.table.proofs.Cursors.{previous-damaged, previous-searches}
+use native.Mathlib.Omega.{arith}
 use borrow.Author.Needs.{needs}
 use Rattle.table.proofs.memtable_iter.entry_before.Statement.{statement}
 use Rattle.table.proofs.memtable_iter.entry_before.Tie as tie
@@ -22,7 +25,7 @@ enum-known-lead c = search needs
 
 -- src/memtable_iter.rt:154:28
 key-in-requires : tie.Need-key-in-requires
-key-in-requires c κs = ?
+key-in-requires c κs = let a = c .before .before .before .before .before .before .before .args in key-inside (a .s .now) (a .node) (c .before .before .before .before .before .before .before .pre .header) (rw (c .before .before .before .lead .given .1) at (c .before .before .before .before .before .lead-of .ensures))
 
 -- src/memtable_iter.rt:154:46
 number-requires : tie.Need-number-requires
@@ -34,11 +37,11 @@ last-before-requires c κs = search needs
 
 -- src/memtable_iter.rt:144:1
 returns : tie.Need-returns
-returns c = ?
+returns c = let a = c .before .before .before .before .args in previous-damaged (a .s .now) (a .node) (rw (c .enum-told .given .1) at (c .before .before .lead-of .ensures))
 
 -- src/memtable_iter.rt:144:1
 returns-2 : tie.Need-returns-2
-returns-2 c = ?
+returns-2 c = let a = c .before .before .before .before .before .before .before .before .before .before .args in previous-searches (a .s .now) (a .node) (rw (c .before .before .before .before .before .before .lead .given .1) at (c .before .before .before .before .before .before .before .before .lead-of .ensures)) (c .before .before .key-in .ensures) (c .before .number .ensures) (c .last-before .ensures)
 
 pub entry-before-spec : {M : Type 1} → statement M
 entry-before-spec =

@@ -1,3 +1,6 @@
+use Rattle.table.specs.MemtableIter.{cursorIs}
+use Rattle.table.proofs.Cursors.{ready, move-refused, move-made, seek-number, seek-key, seek-allowed}
+use mathlib.Core.Path.{_≡_, refl, sym, ap, _∙_}
 use borrow.Author.Needs.{needs}
 use Rattle.table.proofs.memtable_iter.entry_seek.Statement.{statement}
 use Rattle.table.proofs.memtable_iter.entry_seek.Tie as tie
@@ -26,15 +29,15 @@ fits-requires c κs = search needs
 
 -- src/memtable_iter.rt:189:17
 returns : tie.Need-returns
-returns c = ?
+returns c = let a = c .before .before .before .before .before .before .before .args in seek-number (a .s .now) (a .key .now) (a .number) (a .c) (c .before .before .before .before .test-cursor .ensures) (c .before .before .enum-told .given .1) (c .before .fits2 .ensures) (c .if1 .taken)
 
 -- src/memtable_iter.rt:192:17
 returns-2 : tie.Need-returns-2
-returns-2 c = ?
+returns-2 c = let a = c .before .before .before .before .before .before .before .before .args in seek-key (a .s .now) (a .key .now) (a .number) (a .c) (c .before .before .before .before .before .test-cursor .ensures) (c .before .before .before .enum-told .given .1) (c .before .before .fits2 .ensures) (c .before .if1 .left) (c .if2 .taken)
 
 -- src/memtable_iter.rt:194:22
 at-or-after-requires : tie.Need-at-or-after-requires
-at-or-after-requires c κs = ?
+at-or-after-requires c κs = let a = c .before .before .before .before .before .before .before .before .args in ready (a .s .now) (cursorIs (a .c)) (c .before .before .before .before .before .test-cursor .ensures) (c .before .before .before .enum-told .given .1)
 
 -- src/memtable_iter.rt:194:13
 end-move-requires : tie.Need-end-move-requires
@@ -42,11 +45,11 @@ end-move-requires c κs = search needs
 
 -- src/memtable_iter.rt:181:1
 returns-3 : tie.Need-returns-3
-returns-3 c = ?
+returns-3 c = move-refused _ _ _ (c .before .before .before .test-cursor .ensures) (c .before .test .given .1)
 
 -- src/memtable_iter.rt:181:1
 returns-4 : tie.Need-returns-4
-returns-4 c = ?
+returns-4 c = let a = c .before .before .before .before .before .before .before .before .before .before .args in move-made _ _ _ (c .before .before .before .before .before .before .before .test-cursor .ensures) (c .before .before .before .before .before .enum-told .given .1) (seek-allowed (a .s .now) (a .key .now) (a .number) (a .c) (c .before .before .before .before .before .before .before .test-cursor .ensures) (c .before .before .before .before .before .enum-told .given .1) (c .before .before .before .before .fits2 .ensures) (c .before .before .before .if1 .left) (c .before .before .if2 .left)) _ (c .end-move .ensures .0) refl (c .end-move .ensures .1) (c .before .at-or-after .ensures)
 
 pub entry-seek-spec : {M : Type 1} → statement M
 entry-seek-spec =

@@ -1,3 +1,4 @@
+use Rattle.table.proofs.Cursors.{follow-damaged, follow-at}
 use borrow.Author.Needs.{needs}
 use Rattle.table.proofs.memtable_iter.follow_lowest.Statement.{statement}
 use Rattle.table.proofs.memtable_iter.follow_lowest.Tie as tie
@@ -17,7 +18,7 @@ count-requires c κs = search needs
 
 -- src/memtable_iter.rt:82:9
 returns : tie.Need-returns
-returns c = ?
+returns c = let a = c .before .before .before .before .args in follow-damaged (a .s .now) (a .node) (c .before .before .link-of .ensures .0) (c .before .count .ensures .0) (c .if1 .taken)
 
 -- src/memtable_iter.rt:84:20
 cursor-at-requires : tie.Need-cursor-at-requires
@@ -25,7 +26,7 @@ cursor-at-requires c κs = search needs
 
 -- src/memtable_iter.rt:76:1
 returns-2 : tie.Need-returns-2
-returns-2 c = ?
+returns-2 c = let a = c .before .before .before .before .before .args in follow-at (a .s .now) (a .node) (c .before .before .before .link-of .ensures .0) (c .before .before .count .ensures .0) (c .before .if1 .left) (c .cursor-at .ensures)
 
 pub follow-lowest-spec : {M : Type 1} → statement M
 follow-lowest-spec =
