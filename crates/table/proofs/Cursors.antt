@@ -46,7 +46,7 @@ at-node (suc i) h = refl
 
 module _ (xs : List ℕ) {b : Bool} (header : b ≡ headerHolds xs) where
   pub test-header : (c : Cursor) → not b ≡ true → Tested xs c (Failed refusal.BadImage)
-  test-header c t a = rw (sym header ∙ not-true b t)
+  test-header c t = inl (sym header ∙ not-true b t, refl)
 
   module _ (good : not b ≡ false) where
     holds : headerHolds xs ≡ true
@@ -60,14 +60,19 @@ module _ (xs : List ℕ) {b : Bool} (header : b ≡ headerHolds xs) where
 
     module _ {c : EntryCursor} {i : ℕ} (e : c ≡ On i) where
       pub test-zero : i < 1 → Tested xs (cursorIs c) (Failed refusal.NoNode)
-      test-zero h a = rw (e, holds, lt-leb 1 i h)
+      test-zero h = inr (holds, rw (e, lt-leb 1 i h), refl)
 
       module _ (some : 1 ≤ i) {n : ℕ} (is : n ≡ count xs) where
         pub test-above : n < i → Tested xs (cursorIs c) (Failed refusal.NoNode)
-        test-above h a = rw (e, holds, le-leb 1 i some, lt-leb i (count xs) (omega arith))
+        test-above h = inr (holds, rw (e, le-leb 1 i some, lt-leb i (count xs) (omega arith)), refl)
 
         pub test-node : i ≤ n → Tested xs (cursorIs c) Passed
         test-node h = rw e (holds, rw (le-leb 1 i some) (le-leb i (count xs) (omega arith)))
+
+-- a test that failed refuses whatever comes behind it
+pub test-refuses : {A : Type 0} (xs : List ℕ) (c : Cursor) (q : Refusal) → Tested xs c (Failed q) → (a : Answer A) → refused (refusalIs q) ≡ demand (headerHolds xs) badImage (demand (inTable xs c) noNode a)
+test-refuses xs c q (inl (h, e)) a = rw (h, e)
+test-refuses xs c q (inr (h, i, e)) a = rw (h, i, e)
 
 -- what a test that passed gives
 module _ (xs : List ℕ) (c : Cursor) {t : CursorTest} (tested : Tested xs c t) (passed : t ≡ Passed) where
@@ -124,7 +129,7 @@ moves xs m c r e h = record { exact = e; handed = h; rule = λ sound stands fits
 module _ (xs : List ℕ) (m : EntryMove) (c : EntryCursor) {t : CursorTest} (tested : Tested xs (cursorIs c) t) where
   pub move-refused : {q : Refusal} → t ≡ Failed q → Moves xs m c (Refused q c)
   unfolding entryMove
-  move-refused {q} e = moves xs m c (Refused q c) ((rw e at tested) _) refl
+  move-refused {q} e = moves xs m c (Refused q c) (test-refuses xs (cursorIs c) q (rw e at tested) _) refl
 
   -- a move whose arguments are allowed
   pub move-made : t ≡ Passed → ((a : Answer Cursor) → allowed m a ≡ a) → (r : EntryMoved) {f : Answer Cursor} → movedAs r ≡ f → {d : EntryCursor} → c ≡ d → HandsBack d r → f ≡ reading (moved xs m (cursorIs d)) given → Moves xs m c r

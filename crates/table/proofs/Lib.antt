@@ -12,3 +12,4 @@ pub mod Answers
 pub mod Lookups
 pub mod Checking
 pub mod Cursors
+pub mod Views

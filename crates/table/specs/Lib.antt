@@ -7,3 +7,4 @@ pub mod Refusals
 pub mod Memtable
 pub mod Check
 pub mod MemtableIter
+pub mod EntryViews

@@ -1,10 +1,11 @@
 -- What the entry cursor promises: `exact` on any bytes, `handed`, that a refused move hands back its cursor, and `rule` on a sound image.
 use Prim.Native.Nat.{ℕ}
 use mathlib.Core.Path.{_≡_}
+use mathlib.Core.Logic.{_⊎_}
 use mathlib.Core.List.{List}
-use mathlib.Core.Bool.{Bool, true}
+use mathlib.Core.Bool.{Bool, true, false}
 use Rattle.image.specs.Sound.{Header, headerHolds, Sound}
-use Rattle.image.specs.Refusals.{badImage, noNode, damaged, Answer, refused, given, demand}
+use Rattle.image.specs.Refusals.{badImage, noNode, damaged, Answer, refused, given}
 use Rattle.image.specs.EntryMoves.{Cursor, nowhere, on, inTable, EntryMove, entryMove}
 use Rattle.image.specs.Meaning.{Stands, Fitting, Leads}
 use Rattle.table.specs.Refusals.{refusalIs}
@@ -22,10 +23,10 @@ abbrev pub cursorIs : EntryCursor → Cursor
 cursorIs Nowhere = nowhere
 cursorIs (On i) = on i
 
--- a cursor that may be used, or the refusal that comes before anything else
+-- a cursor that may be used, or the first of the two tests that it fails
 abbrev pub Tested : List ℕ → Cursor → CursorTest → Type 0
 Tested xs c Passed = (headerHolds xs ≡ true) × (inTable xs c ≡ true)
-Tested xs c (Failed q) = (a : Answer Cursor) → refused (refusalIs q) ≡ demand (headerHolds xs) badImage (demand (inTable xs c) noNode a)
+Tested xs c (Failed q) = ((headerHolds xs ≡ false) × (refusalIs q ≡ badImage)) ⊎ ((headerHolds xs ≡ true) × (inTable xs c ≡ false) × (refusalIs q ≡ noNode))
 
 -- where a cursor may go
 abbrev pub foundAs : EntryFound → Answer Cursor

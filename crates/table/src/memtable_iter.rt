@@ -48,7 +48,7 @@ pub enum CursorTest {
 }
 
 // The header is tested, then the cursor: it names a node of the table, or none.
-fn test_cursor(s: &[u8], c: EntryCursor) -> CursorTest
+pub fn test_cursor(s: &[u8], c: EntryCursor) -> CursorTest
     ensures { λ r. ⌜ Tested (now (s .entry)) (cursorIs c) r ⌝ }
 {
     if !header_holds(s) {
