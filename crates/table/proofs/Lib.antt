@@ -13,3 +13,4 @@ pub mod Lookups
 pub mod Checking
 pub mod Cursors
 pub mod Views
+pub mod Presences

@@ -8,3 +8,4 @@ pub mod Memtable
 pub mod Check
 pub mod MemtableIter
 pub mod EntryViews
+pub mod Presence
