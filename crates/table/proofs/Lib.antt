@@ -14,3 +14,4 @@ pub mod Checking
 pub mod Cursors
 pub mod Views
 pub mod Presences
+pub mod OneAnswer
