@@ -22,3 +22,4 @@ pub mod BootBench
 pub mod Lookup
 pub mod EntryMoves
 pub mod Spots
+pub mod Views

@@ -11,3 +11,7 @@ pub mod Inserting
 pub mod Answers
 pub mod Lookups
 pub mod Checking
+pub mod Cursors
+pub mod Views
+pub mod Presences
+pub mod OneAnswer

@@ -6,3 +6,6 @@ pub mod Skipmap
 pub mod Refusals
 pub mod Memtable
 pub mod Check
+pub mod MemtableIter
+pub mod EntryViews
+pub mod Presence

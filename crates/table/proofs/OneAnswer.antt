@@ -1,0 +1,151 @@
+-- Two answers that a promise allows are one: for each call on one table, on any bytes.
+use Prim.Native.Nat.{ℕ}
+use mathlib.Core.Path.{_≡_, refl, sym, ap, _∙_}
+use mathlib.Core.List.{List}
+use mathlib.Core.Bool.{Bool, true, false}
+use Rattle.rule.specs.Entries.{Entry}
+use Rattle.image.specs.Refusals as is
+use Rattle.image.specs.Refusals.{Answer, refused, given}
+use Rattle.image.specs.Add.{Grown}
+use Rattle.image.specs.Lookup.{Looked, found, deleted, absent, Lookup as LookupIs, Presence as PresenceIs}
+use Rattle.image.specs.EntryMoves.{Cursor, nowhere, on, EntryMove}
+use Rattle.table.specs.Refusals.{refusalIs}
+use Rattle.table.specs.Memtable.{freshenedAs, Freshens, addedAs, Adds, lookupAs, Gets}
+use Rattle.table.specs.Presence.{presenceAs, Contains, ShowsRow}
+use Rattle.table.specs.MemtableIter.{cursorIs, movedAs, HandsBack, Moves}
+use Rattle.table.specs.Check.{Checked}
+use Rattle.table.specs.declared.refusals.Refusal.{Refusal}
+use Rattle.table.specs.declared.refusals.Refusal.the-variants.{BadImage, BadKind, BadNumber, LongKey, LongValue, BadHeight, NoRoom, Duplicate, Damaged, NoNode}
+use Rattle.table.specs.declared.memtable.Freshened.{Freshened}
+use Rattle.table.specs.declared.memtable.Freshened.the-variants as freshened
+use Rattle.table.specs.declared.memtable.Added.{Added}
+use Rattle.table.specs.declared.memtable.Added.the-variants as added
+use Rattle.table.specs.declared.memtable.Lookup.{Lookup}
+use Rattle.table.specs.declared.memtable.Lookup.the-variants as lookup
+use Rattle.table.specs.declared.presence.Presence.{Presence}
+use Rattle.table.specs.declared.presence.Presence.the-variants as presence
+use Rattle.table.specs.declared.memtable_iter.EntryCursor.{EntryCursor}
+use Rattle.table.specs.declared.memtable_iter.EntryCursor.the-variants.{Nowhere, On}
+use Rattle.table.specs.declared.memtable_iter.EntryMoved.{EntryMoved}
+use Rattle.table.specs.declared.memtable_iter.EntryMoved.the-variants.{To, Refused}
+
+-- what is taken back from its image is what it was
+recovered {ℓ κ} : {A : Type ℓ} {B : Type κ} (f : A → B) (back : B → A) → ((a : A) → back (f a) ≡ a) → (a b : A) → f a ≡ f b → a ≡ b
+recovered f back law a b e = sym (law a) ∙ ap back e ∙ law b
+
+-- ---- from the answers of the definitions back to those of the code
+
+refusalFrom : is.Refusal → Refusal
+refusalFrom is.badImage = BadImage
+refusalFrom is.badKind = BadKind
+refusalFrom is.badNumber = BadNumber
+refusalFrom is.longKey = LongKey
+refusalFrom is.longValue = LongValue
+refusalFrom is.badHeight = BadHeight
+refusalFrom is.noRoom = NoRoom
+refusalFrom is.duplicate = Duplicate
+refusalFrom is.damaged = Damaged
+refusalFrom is.noNode = NoNode
+
+refusal-back : (q : Refusal) → refusalFrom (refusalIs q) ≡ q
+unfolding refusalFrom
+refusal-back BadImage = refl
+refusal-back BadKind = refl
+refusal-back BadNumber = refl
+refusal-back LongKey = refl
+refusal-back LongValue = refl
+refusal-back BadHeight = refl
+refusal-back NoRoom = refl
+refusal-back Duplicate = refl
+refusal-back Damaged = refl
+refusal-back NoNode = refl
+
+freshenedFrom : Answer (List ℕ) → Freshened
+freshenedFrom (given ys) = freshened.Done
+freshenedFrom (refused r) = freshened.Refused (refusalFrom r)
+
+addedFrom : Answer Grown → Added
+addedFrom (given g) = added.Node (g .node)
+addedFrom (refused r) = added.Refused (refusalFrom r)
+
+saidFrom : Looked → ℕ → Lookup
+saidFrom (found i) looks = lookup.Found i looks
+saidFrom deleted looks = lookup.Deleted looks
+saidFrom absent looks = lookup.Absent looks
+
+lookupFrom : Answer LookupIs → Lookup
+lookupFrom (given a) = saidFrom (a .says) (a .looks)
+lookupFrom (refused r) = lookup.Refused (refusalFrom r)
+
+heldFrom : Bool → ℕ → Presence
+heldFrom true looks = presence.Held looks
+heldFrom false looks = presence.NotHeld looks
+
+presenceFrom : Answer PresenceIs → Presence
+presenceFrom (given a) = heldFrom (a .held) (a .looks)
+presenceFrom (refused r) = presence.Refused (refusalFrom r)
+
+cursorFrom : Cursor → EntryCursor
+cursorFrom nowhere = Nowhere
+cursorFrom (on i) = On i
+
+cursor-back : (c : EntryCursor) → cursorFrom (cursorIs c) ≡ c
+unfolding cursorFrom
+cursor-back Nowhere = refl
+cursor-back (On i) = refl
+
+-- a refused move hands back the cursor c
+movedFrom : EntryCursor → Answer Cursor → EntryMoved
+movedFrom c (given d) = To (cursorFrom d)
+movedFrom c (refused r) = Refused (refusalFrom r) c
+
+-- ---- one answer
+
+pub fresh-one : (xs : List ℕ) (r q : Freshened) (ys zs : List ℕ) → Freshens xs r ys → Freshens xs q zs → (r ≡ q) × (ys ≡ zs)
+unfolding freshenedFrom
+fresh-one xs r q ys zs a b = (sym (back r ys) ∙ ap freshenedFrom (a .exact ∙ sym (b .exact)) ∙ back q zs, a .bytes ∙ sym (b .bytes))
+  where
+    back : (r : Freshened) (ys : List ℕ) → freshenedFrom (freshenedAs r ys) ≡ r
+    back freshened.Done ys = refl
+    back (freshened.Refused q) ys = ap {B = Freshened} freshened.Refused (refusal-back q)
+
+pub add-one-answer : (xs : List ℕ) (e : Entry) (h : ℕ) (r q : Added) (ys zs : List ℕ) → Adds xs e h r ys → Adds xs e h q zs → (r ≡ q) × (ys ≡ zs)
+unfolding addedFrom
+add-one-answer xs e h r q ys zs a b = (sym (back r ys) ∙ ap addedFrom (a .exact ∙ sym (b .exact)) ∙ back q zs, a .bytes ∙ sym (b .bytes))
+  where
+    back : (r : Added) (ys : List ℕ) → addedFrom (addedAs r ys) ≡ r
+    back (added.Node i) ys = refl
+    back (added.Refused q) ys = ap {B = Added} added.Refused (refusal-back q)
+
+pub get-one : (xs k : List ℕ) (s : ℕ) (r q : Lookup) → Gets xs k s r → Gets xs k s q → r ≡ q
+unfolding lookupFrom saidFrom
+get-one xs k s r q a b = recovered lookupAs lookupFrom back r q (a .exact ∙ sym (b .exact))
+  where
+    back : (r : Lookup) → lookupFrom (lookupAs r) ≡ r
+    back (lookup.Found i looks) = refl
+    back (lookup.Deleted looks) = refl
+    back (lookup.Absent looks) = refl
+    back (lookup.Refused q) = ap {B = Lookup} lookup.Refused (refusal-back q)
+
+pub contains-one : (xs k : List ℕ) (n kind : ℕ) (r q : Presence) → Contains xs k n kind r → Contains xs k n kind q → r ≡ q
+unfolding presenceFrom heldFrom
+contains-one xs k n kind r q a b = recovered presenceAs presenceFrom back r q (a .exact ∙ sym (b .exact))
+  where
+    back : (r : Presence) → presenceFrom (presenceAs r) ≡ r
+    back (presence.Held looks) = refl
+    back (presence.NotHeld looks) = refl
+    back (presence.Refused q) = ap {B = Presence} presence.Refused (refusal-back q)
+
+pub move-one : (xs : List ℕ) (m : EntryMove) (c : EntryCursor) (r q : EntryMoved) → Moves xs m c r → Moves xs m c q → r ≡ q
+unfolding movedFrom
+move-one xs m c r q a b = sym (back r (a .handed)) ∙ ap (movedFrom c) (a .exact ∙ sym (b .exact)) ∙ back q (b .handed)
+  where
+    back : (r : EntryMoved) → HandsBack c r → movedFrom c (movedAs r) ≡ r
+    back (To d) h = ap {B = EntryMoved} To (cursor-back d)
+    back (Refused q d) h = rw (refusal-back q, h)
+
+pub check-one : (xs : List ℕ) (r q : Bool) → Checked xs r → Checked xs q → r ≡ q
+check-one xs r q a b = a .exact ∙ sym (b .exact)
+
+pub value-one : (xs k : List ℕ) (s : ℕ) (v w : List ℕ) → ShowsRow xs k s v → ShowsRow xs k s w → v ≡ w
+value-one xs k s v w a b = a .exact ∙ sym (b .exact)

@@ -1,0 +1,84 @@
+// Presence of an entry, and the value of a key: two questions that end in one node.
+ghost use mathlib.Core.Path.{_≡_};
+ghost use Rattle.image.specs.Refusals.{given, reading};
+ghost use Rattle.image.specs.Search.{hit};
+ghost use Rattle.image.specs.Lookup.{heldAt};
+ghost use Rattle.table.specs.Nodes.{Numbered};
+ghost use Rattle.table.specs.Presence.{presenceAs, Contains, ShowsRow};
+use crate::entries::MAX_KEY;
+use crate::entry_views::value;
+use crate::key_types::Number;
+use crate::key_types::Tag;
+use crate::memtable::Lookup;
+use crate::memtable::get;
+use crate::nodes::NodeRead;
+use crate::nodes::header_holds;
+use crate::nodes::node_of;
+use crate::refusals::Refusal;
+use crate::skipmap::OnEqual;
+use crate::skipmap::Spot;
+use crate::skipmap::search;
+
+// Whether an entry is held, with the looks that it took to tell.
+pub enum Presence {
+    Held { looks: usize },
+    NotHeld { looks: usize },
+    Refused(Refusal),
+}
+
+// Whether the node at which a search stopped has this type too.
+fn held_at(s: &[u8], node: usize, kind: u8, looks: usize) -> Presence
+    requires { ⌜ Numbered (now s) node ⌝ }
+    ensures { λ r. ⌜ presenceAs r ≡ reading (heldAt (now (s .entry)) kind (hit node looks)) (λ b. given (record { held = b; looks = looks })) ⌝ }
+{
+    let read = node_of(s, node);
+    match read {
+        NodeRead::Bad(_) => Presence::Refused(Refusal::Damaged),
+        NodeRead::Got(m) => {
+            let tag = m.parts.keyed.tag;
+            if tag.kind() != kind {
+                return Presence::NotHeld { looks };
+            }
+            Presence::Held { looks }
+        }
+    }
+}
+
+// Whether an entry of this key, number and type is held. Refusals 1, 2, 3, 4, 9.
+pub fn contains(s: &[u8], key: &[u8], number: u64, kind: u8) -> Presence
+    ensures { λ r. ⌜ Contains (now (s .entry)) (now (key .entry)) number kind r ⌝ }
+{
+    if !header_holds(s) {
+        return Presence::Refused(Refusal::BadImage);
+    }
+    if !Tag::known(kind) {
+        return Presence::Refused(Refusal::BadKind);
+    }
+    if !Number::fits(number) {
+        return Presence::Refused(Refusal::BadNumber);
+    }
+    if key.len() > MAX_KEY {
+        return Presence::Refused(Refusal::LongKey);
+    }
+    let found = search(s, OnEqual::Stop, key, number);
+    let spot = found.spot;
+    match spot {
+        Spot::Bad(_) => Presence::Refused(Refusal::Damaged),
+        Spot::Hit { node, looks } => held_at(s, node, kind, looks),
+        Spot::Ends {
+            before: _,
+            after: _,
+            looks,
+        } => Presence::NotHeld { looks },
+    }
+}
+
+// The value of a key at a snapshot, a part of the image itself; empty where the key has no row, or the lookup is refused.
+pub fn get_value<'a>(s: &'a [u8], key: &[u8], snapshot: u64) -> &'a [u8]
+    ensures { λ r. ⌜ ShowsRow (now (s .entry)) (now (key .entry)) snapshot (now r) ⌝ }
+{
+    let Lookup::Found { node, looks: _ } = get(s, key, snapshot) else {
+        return &s[..0];
+    };
+    value(s, node)
+}
