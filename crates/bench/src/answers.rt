@@ -1,16 +1,11 @@
-// What a call answered, or is to answer by document 01, and the line that sets the two side by side.
+// What a call answered, or is to answer by document 01.
+use crate::lines::same_bytes;
 use crate::show;
-use table::check::check;
 use table::memtable::Added;
 use table::memtable::Freshened;
 use table::memtable::Lookup;
-use table::memtable::fresh;
-use table::memtable::get;
-
-// Places of the columns: the case with its call, and an answer.
-const CASE_WIDTH: usize = 42;
-
-const ANSWER_WIDTH: usize = 25;
+use table::memtable_iter::EntryMoved;
+use table::presence::Presence;
 
 pub enum Answer {
     Done,
@@ -19,6 +14,8 @@ pub enum Answer {
     Found { node: usize, looks: usize },
     Deleted { looks: usize },
     Absent { looks: usize },
+    Held { looks: usize },
+    NotHeld { looks: usize },
     Sound,
     NotSound,
     Refused(u32),
@@ -51,16 +48,10 @@ impl Answer {
         }
     }
 
-    // The answer of an addition, with the image before it and after it.
-    pub fn of_add(r: Added, before: &[u8], after: &[u8]) -> Answer {
+    pub fn of_add(r: Added) -> Answer {
         match r {
             Added::Node(i) => Answer::Node(i),
-            Added::Refused(q) => {
-                if same_bytes(before, after) {
-                    return Answer::Refused(q.number());
-                }
-                Answer::Changed(q.number())
-            }
+            Added::Refused(q) => Answer::Refused(q.number()),
         }
     }
 
@@ -73,12 +64,38 @@ impl Answer {
         }
     }
 
+    pub fn of_presence(r: Presence) -> Answer {
+        match r {
+            Presence::Held { looks } => Answer::Held { looks },
+            Presence::NotHeld { looks } => Answer::NotHeld { looks },
+            Presence::Refused(q) => Answer::Refused(q.number()),
+        }
+    }
+
+    pub fn of_move(r: EntryMoved) -> Answer {
+        match r {
+            EntryMoved::To(_) => Answer::Done,
+            EntryMoved::Refused(q, _) => Answer::Refused(q.number()),
+        }
+    }
+
     pub fn of_check(sound: bool) -> Answer {
         if sound {
             Answer::Sound
         } else {
             Answer::NotSound
         }
+    }
+
+    // The answer of a call that was lent an image, by whether a refusal kept every byte of it.
+    pub fn kept(self, before: &[u8], after: &[u8]) -> Answer {
+        let Answer::Refused(n) = self else {
+            return self;
+        };
+        if same_bytes(before, after) {
+            return self;
+        }
+        Answer::Changed(n)
     }
 
     fn code(self) -> Code {
@@ -89,10 +106,12 @@ impl Answer {
             Answer::Found { node, looks } => Code::of(3, node, looks),
             Answer::Deleted { looks } => Code::of(4, 0, looks),
             Answer::Absent { looks } => Code::of(5, 0, looks),
-            Answer::Sound => Code::of(6, 0, 0),
-            Answer::NotSound => Code::of(7, 0, 0),
-            Answer::Refused(n) => Code::of(8, n as usize, 0),
-            Answer::Changed(n) => Code::of(9, n as usize, 0),
+            Answer::Held { looks } => Code::of(6, 0, looks),
+            Answer::NotHeld { looks } => Code::of(7, 0, looks),
+            Answer::Sound => Code::of(8, 0, 0),
+            Answer::NotSound => Code::of(9, 0, 0),
+            Answer::Refused(n) => Code::of(10, n as usize, 0),
+            Answer::Changed(n) => Code::of(11, n as usize, 0),
         }
     }
 
@@ -110,7 +129,7 @@ impl Answer {
     }
 
     // Whether a search on a damaged image ended as it may: with refusal 9, or with an answer after so many looks at most.
-    fn bounded(self, most: usize) -> bool {
+    pub fn bounded(self, most: usize) -> bool {
         match self {
             Answer::Found { node: _, looks } => looks <= most,
             Answer::Deleted { looks } => looks <= most,
@@ -120,128 +139,28 @@ impl Answer {
         }
     }
 
-    // Writes an answer into its column.
-    fn show(self) {
-        show::blanks(1);
-        let left = self.words();
-        show::blanks(left);
-    }
-
     // Writes an answer; answers the places that its column has left.
-    fn words(self) -> usize {
+    pub fn words(self, left: usize) -> usize {
         match self {
-            Answer::Done => show::text(b"done", ANSWER_WIDTH),
-            Answer::Node(i) => counted(b"node ", i, b""),
-            Answer::Entries(n) => counted(b"", n, b" entries"),
+            Answer::Done => show::text(b"done", left),
+            Answer::Node(i) => show::counted(b"node ", i, left),
+            Answer::Entries(n) => show::counted(b"entries: ", n, left),
             Answer::Found { node, looks } => {
-                let left = counted(b"found, node ", node, b"");
-                looked(looks, left)
+                looked(show::counted(b"found, node ", node, left), looks)
             }
-            Answer::Deleted { looks } => looked(looks, show::text(b"deleted", ANSWER_WIDTH)),
-            Answer::Absent { looks } => looked(looks, show::text(b"absent", ANSWER_WIDTH)),
-            Answer::Sound => show::text(b"sound", ANSWER_WIDTH),
-            Answer::NotSound => show::text(b"not sound", ANSWER_WIDTH),
-            Answer::Refused(n) => counted(b"refused ", n as usize, b""),
-            Answer::Changed(n) => counted(b"refused ", n as usize, b", bytes changed"),
+            Answer::Deleted { looks } => looked(show::text(b"deleted", left), looks),
+            Answer::Absent { looks } => looked(show::text(b"absent", left), looks),
+            Answer::Held { looks } => looked(show::text(b"held", left), looks),
+            Answer::NotHeld { looks } => looked(show::text(b"not held", left), looks),
+            Answer::Sound => show::text(b"sound", left),
+            Answer::NotSound => show::text(b"not sound", left),
+            Answer::Refused(n) => show::counted(b"refused ", n as usize, left),
+            Answer::Changed(n) => show::counted(b"bytes changed, refused ", n as usize, left),
         }
     }
 }
 
-// Whether two slices hold the same bytes.
-pub fn same_bytes(a: &[u8], b: &[u8]) -> bool {
-    if a.len() != b.len() {
-        return false;
-    }
-    let mut i = 0;
-    while i < a.len() {
-        if a[i] != b[i] {
-            return false;
-        }
-        i += 1;
-    }
-    true
-}
-
-// Writes a number between two texts, at the start of an answer's column.
-fn counted(before: &[u8], n: usize, behind: &[u8]) -> usize {
-    let left = show::text(before, ANSWER_WIDTH);
-    let left = show::number(n, left);
-    show::text(behind, left)
-}
-
-// Writes the looks of a lookup behind its answer.
-fn looked(looks: usize, left: usize) -> usize {
-    let left = show::text(b", ", left);
-    let left = show::number(looks, left);
-    show::text(b" looks", left)
-}
-
-// Writes what a line starts with: the case and the call that is made.
-fn start(name: &[u8], call: &[u8]) {
-    let left = show::text(name, CASE_WIDTH);
-    let left = show::text(b": ", left);
-    let left = show::text(call, left);
-    let left = show::text(b" ", left);
-    show::dots(left);
-}
-
-// The line of a case: what document 01 expects of the call, what came out, and whether they are the same.
-pub fn case(name: &[u8], call: &[u8], expected: Answer, got: Answer) {
-    start(name, call);
-    expected.show();
-    got.show();
-    show::verdict(expected.same(got));
-}
-
-// The line of making a table fresh.
-pub fn fresh_case(name: &[u8], expected: Answer, image: &mut [u8]) {
-    case(name, b"fresh", expected, Answer::of_fresh(fresh(image)));
-}
-
-// The line of an addition, with the image before it and after it.
-pub fn add_case(name: &[u8], expected: Answer, got: Added, before: &[u8], after: &[u8]) {
-    case(name, b"add", expected, Answer::of_add(got, before, after));
-}
-
-// The line of a lookup.
-pub fn get_case(name: &[u8], expected: Answer, image: &[u8], key: &[u8], snapshot: u64) {
-    case(
-        name,
-        b"get",
-        expected,
-        Answer::of_get(get(image, key, snapshot)),
-    );
-}
-
-// The line of a lookup on a damaged image: document 01 allows refusal 9, or an answer made from what was read.
-pub fn bounded_case(name: &[u8], most: usize, image: &[u8], key: &[u8], snapshot: u64) {
-    let got = Answer::of_get(get(image, key, snapshot));
-    start(name, b"get");
-    show::blanks(1);
-    let left = counted(b"9, or ", most, b" looks or fewer");
-    show::blanks(left);
-    got.show();
-    show::verdict(got.bounded(most));
-}
-
-// The line of the check.
-pub fn check_case(name: &[u8], expected: Answer, image: &[u8]) {
-    case(name, b"check", expected, Answer::of_check(check(image)));
-}
-
-// The heading above the lines.
-pub fn heading() {
-    show::blanks(show::text(b"case: call", CASE_WIDTH));
-    show::blanks(show::text(b" document 01", ANSWER_WIDTH));
-    show::text(b"  came out\n", 0);
-}
-
-// The two lines of a case that is about bytes: those that document 01 lists, and those that the image holds.
-pub fn bytes_case(name: &[u8], expected: &[u8], got: &[u8], group: usize) {
-    start(name, b"document 01");
-    show::hex(expected, group);
-    show::text(b"\n", 0);
-    start(name, b"came out");
-    show::hex(got, group);
-    show::verdict(same_bytes(expected, got));
+// Writes the looks of a search behind what it found.
+fn looked(left: usize, looks: usize) -> usize {
+    show::text(b" looks", show::counted(b", ", looks, left))
 }

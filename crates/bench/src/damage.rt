@@ -1,20 +1,28 @@
 // Images that something has written over. Every call on them returns, and a refusal keeps every byte.
 use crate::answers::Answer;
-use crate::answers::add_case;
-use crate::answers::bounded_case;
-use crate::answers::check_case;
-use crate::answers::get_case;
-use table::key_types::Tag;
-use table::memtable::add;
+use crate::entry::Entry;
+use crate::lines::add_case;
+use crate::lines::bounded_case;
+use crate::lines::check_case;
+use crate::lines::get_case;
+use crate::lines::name;
 use table::memtable::fresh;
 ghost use Prim.Native.Nat.{_<_};
 
 // The lines of an image whose header does not hold.
-fn bad_header(name: &[u8], image: &mut [u8], before: &[u8]) {
-    get_case(name, Answer::Refused(1), image, b"a", 1);
-    check_case(name, Answer::NotSound, image);
-    let added = add(image, b"b", 1, Tag::VALUE, b"y", 1);
-    add_case(name, Answer::Refused(1), added, before, image);
+fn bad_header(of: &[u8], image: &mut [u8], before: &[u8]) {
+    name(of);
+    get_case(Answer::Refused(1), image, b"a", 1);
+    name(of);
+    check_case(Answer::NotSound, image);
+    name(of);
+    add_case(
+        Answer::Refused(1),
+        image,
+        before,
+        Entry::value(b'b', 1, b'y'),
+        1,
+    );
 }
 
 // The image of P11, with a byte written over.
@@ -23,18 +31,18 @@ fn overwritten(at: usize, byte: u8) -> [u8; 92]
 {
     let mut image = [0u8; 92];
     fresh(&mut image);
-    add(&mut image, b"a", 1, Tag::VALUE, b"x", 1);
+    Entry::value(b'a', 1, b'x').put(&mut image, 1);
     image[at] = byte;
     image
 }
 
 // The lines of a header with one byte written over: 0 is in the length, 8 in the first free byte, 12 in the level count.
-fn header(name: &[u8], at: usize, byte: u8)
+fn header(of: &[u8], at: usize, byte: u8)
     requires { ⌜ at < 92 ⌝ }
 {
     let mut image = overwritten(at, byte);
     let before = image;
-    bad_header(name, &mut image, &before);
+    bad_header(of, &mut image, &before);
 }
 
 // One byte of the image is not lent.
@@ -65,44 +73,58 @@ fn counted(low: u8, high: u8) -> [u8; 65536] {
     image
 }
 
-// The largest count is within the limits, and one node more is too many.
+// A count of 4,096 is within its limit, and one node more is too many.
 pub fn counts() {
     let mut image = counted(1, 16);
     let before = image;
-    bad_header(b"n = 4,097", &mut image, &before);
+    bad_header(b"n = 4097", &mut image, &before);
     let mut image = counted(0, 16);
     let before = image;
-    let added = add(&mut image, b"b", 1, Tag::VALUE, b"y", 1);
+    name(b"n = 4096, no node linked");
     add_case(
-        b"n = 4,096, no node linked",
         Answer::Refused(7),
-        added,
+        &mut image,
         &before,
-        &image,
+        Entry::value(b'b', 1, b'y'),
+        1,
     );
 }
 
 // The lines of a link above the count; the key is one whose search meets it.
-fn link_above(name: &[u8], image: [u8; 92], key: &[u8]) {
-    get_case(name, Answer::Refused(9), &image, key, 1);
-    check_case(name, Answer::NotSound, &image);
+fn link_above(of: &[u8], image: [u8; 92], key: u8) {
+    let k = [key];
+    name(of);
+    get_case(Answer::Refused(9), &image, &k, 1);
+    name(of);
+    check_case(Answer::NotSound, &image);
     let mut after = image;
-    let added = add(&mut after, key, 2, Tag::VALUE, b"y", 1);
-    add_case(name, Answer::Refused(9), added, &image, &after);
+    name(of);
+    add_case(
+        Answer::Refused(9),
+        &mut after,
+        &image,
+        Entry::value(key, 2, b'y'),
+        1,
+    );
 }
 
-// The lines of a node that is linked to itself: a search that passes it meets it again. The table's count is 1.
+// The lines of a node that is linked to itself: a search that passes it, as that for b, meets it again. The count is 1.
 fn link_to_itself(image: &[u8]) {
-    check_case(b"node 1 linked to itself", Answer::NotSound, image);
-    bounded_case(b"node 1 linked to itself, key a", 13, image, b"a", 1);
-    bounded_case(b"node 1 linked to itself, key b", 13, image, b"b", 1);
-    bounded_case(b"node 1 linked to itself, key A", 13, image, b"A", 1);
+    let of = b"node 1 linked to itself";
+    name(of);
+    check_case(Answer::NotSound, image);
+    name(of);
+    bounded_case(13, image, b'A', 1);
+    name(of);
+    bounded_case(13, image, b'a', 1);
+    name(of);
+    bounded_case(13, image, b'b', 1);
 }
 
 // In the image of P11 the head's lowest link is at 16, and that of node 1 at 72.
 pub fn links() {
     let image = overwritten(72, 1);
     link_to_itself(&image);
-    link_above(b"node 1 linked to node 2 of 1", overwritten(72, 2), b"b");
-    link_above(b"head linked to node 2 of 1", overwritten(16, 2), b"a");
+    link_above(b"node 1 linked to node 2 of 1", overwritten(72, 2), b'b');
+    link_above(b"head linked to node 2 of 1", overwritten(16, 2), b'a');
 }

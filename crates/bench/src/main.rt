@@ -1,13 +1,30 @@
-// Document 01's boundary cases, run through the public calls. Each line says the case, what document 01 expects, what came out,
-// and `ok` or `WRONG`.
-mod answers; // answers.rt: what a call answered, and the line of a case
+// Document 01's boundary cases, run through the public calls. Each line says the case, the call, what document 01 expects of it,
+// what came out, and `ok` or `WRONG`.
+mod answers; // answers.rt: what a call answered, or is to answer
 mod damage; // damage.rt: headers and links that were overwritten
+mod entry; // entry.rt: entries of one-byte keys and values
 mod limits; // limits.rt: lengths, heights, keys, values, numbers, types
+mod lines; // lines.rt: the line of a case
+mod moves; // moves.rt: the entry cursor over T
+mod rows; // rows.rt: document 01's table T and its rows
 mod show; // show.rt: texts, numbers and bytes in columns
 mod whole; // whole.rt: fresh, full and smallest tables
 
+// Table T, by lookups and by the cursor.
+fn table_t() {
+    let mut image = [0u8; 512];
+    rows::make(&mut image);
+    rows::rows(&image);
+    rows::presence(&image);
+    moves::forward(&image);
+    moves::backward(&image);
+    moves::seeks(&image);
+    moves::no_node(&image, 0);
+    moves::no_node(&image, 6);
+}
+
 fn main() {
-    answers::heading();
+    lines::heading();
     limits::lengths();
     limits::heights();
     limits::keys_and_values();
@@ -21,4 +38,5 @@ fn main() {
     damage::headers();
     damage::counts();
     damage::links();
+    table_t();
 }

@@ -1,12 +1,8 @@
 // Lines in columns: texts, numbers and bytes in hex, each written at once to standard output. What writes into a column is handed
 // how many places the column has left, and answers how many it has then.
-ghost use Prim.Native.Nat.{_<_};
-
 const BLANKS: [u8; 48] = [b' '; 48];
 
 const DOTS: [u8; 48] = [b'.'; 48];
-
-const HEX_DIGITS: [u8; 16] = *b"0123456789ABCDEF";
 
 // The places that a column has left after some more are used; a text that is too wide leaves none.
 fn less(left: usize, used: usize) -> usize {
@@ -19,12 +15,23 @@ pub fn text(s: &[u8], left: usize) -> usize {
     less(left, s.len())
 }
 
+// Writes a character.
+pub fn letter(b: u8, left: usize) -> usize {
+    let s = [b];
+    text(&s, left)
+}
+
 // Writes a number in decimal.
 pub fn number(n: usize, left: usize) -> usize {
     let mut digits = [0u8; 20];
     let k = io::decimal(n as u64, &mut digits);
     io::write_all(1, &digits[..k]);
     less(left, k)
+}
+
+// Writes a number behind a text.
+pub fn counted(before: &[u8], n: usize, left: usize) -> usize {
+    number(n, text(before, left))
 }
 
 // Writes the first bytes of a text, as many as a column has left.
@@ -46,18 +53,13 @@ pub fn dots(left: usize) {
     fill(&s, left);
 }
 
-// The hexadecimal digit of a number below 16.
-fn digit(n: u8) -> u8
-    requires { ⌜ n < 16 ⌝ }
-{
-    let digits = HEX_DIGITS;
-    digits[n as usize]
-}
-
 // Writes the two hexadecimal digits of a byte.
 fn hex_byte(b: u8) {
-    let digits = [digit(b / 16), digit(b % 16)];
-    io::write_all(1, &digits);
+    let digits = *b"0123456789ABCDEF";
+    let high = (b / 16) as usize;
+    let low = (b % 16) as usize;
+    let pair = [digits[high], digits[low]];
+    io::write_all(1, &pair);
 }
 
 // Writes bytes in hex, with a blank before each group of so many.

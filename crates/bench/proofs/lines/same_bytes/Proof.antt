@@ -2,8 +2,8 @@ use borrow.Author.Needs.{needs}
 use mathlib.Core.Path.{_≡_}
 use Prim.Native.Nat.{_≤_, _-_}
 use lib.ListN.{length}
-use Rattle.bench.proofs.answers.same_bytes.Statement.{statement}
-use Rattle.bench.proofs.answers.same_bytes.Tie as tie
+use Rattle.bench.proofs.lines.same_bytes.Statement.{statement}
+use Rattle.bench.proofs.lines.same_bytes.Tie as tie
 
 abbrev Inv-loop : tie.InvT-loop
 Inv-loop a b i₀ i = (i ≤ length a) × (length a ≡ length b)
