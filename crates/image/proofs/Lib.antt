@@ -22,3 +22,5 @@ pub mod BootBench
 pub mod Lookup
 pub mod EntryMoves
 pub mod Spots
+pub mod Nearest
+pub mod Newest
