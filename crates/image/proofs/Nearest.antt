@@ -18,10 +18,10 @@ use Rattle.image.specs.Readers.{got, bind}
 use Rattle.image.specs.Nodes.{count, entryOf, linkPlace, linkOf}
 use Rattle.image.specs.Sound.{Sound, headerHolds}
 use Rattle.image.specs.Search.{OnEqual, toStop, toGoDown, toPass, turnBy, Found, hit, ends, searched, standing, passed}
-use Rattle.image.specs.Refusals.{given, damaged, reading}
+use Rattle.image.specs.Refusals.{given, damaged}
 use Rattle.image.specs.EntryMoves.{Cursor, nowhere, on, cursorAt}
-use Rattle.image.specs.Meaning.{IsNode, Foremost}
-use Rattle.image.specs.Cuts.{Cut, all, from, above, below, cmpOf, admits, pastOf, nearAt, nearest, NearestIs}
+use Rattle.image.specs.Meaning.{Foremost}
+use Rattle.image.specs.Cuts.{Cut, all, from, above, below, cmpOf, admits, pastOf, nearAt, nearest, NearestIs, NearestIn}
 use Rattle.image.proofs.Refusals.{demand-given, reading-given}
 use Rattle.image.proofs.Readers.{got-same, bind-got, check-got}
 use Rattle.image.proofs.Chains.{first, last}
@@ -171,10 +171,10 @@ near-most xs from t i e = let (r, f, g) = bind-got (searched xs toStop t maxNumb
 near-most xs above t i e = let (r, f, g) = bind-got (searched xs toPass t 0) (λ r. got (standing r)) i e in rw (got-same g) at (standing-most xs toPass t 0 r f)
 near-most xs below t i e = let (r, f, g) = bind-got (searched xs toGoDown t maxNumber) (λ r. got (passed r)) i e in rw (got-same g) at (passed-most xs toGoDown t maxNumber r f)
 
-pub nearest-in : (xs : List ℕ) (c : Cut) (t : List ℕ) (i : ℕ) → nearest xs c t ≡ given (on i) → IsNode xs i
+pub nearest-in : (xs : List ℕ) (c : Cut) (t : List ℕ) (d : Cursor) → nearest xs c t ≡ given d → NearestIn xs d
 unfolding nearest
-nearest-in xs c t i e = let (_, f) = demand-given (headerHolds xs) damaged (reading (nearAt xs c t) (λ i. given (cursorAt i))) (on i) e in let (j, g, h) = reading-given (nearAt xs c t) (λ i. given (cursorAt i)) (on i) f in go j (near-most xs c t j g) h
+nearest-in xs c t d e = let (_, f) = demand-given (headerHolds xs) damaged _ d e in let (i, g, h) = reading-given (nearAt xs c t) (λ i. given (cursorAt i)) d f in let z : cursorAt i ≡ d = cc in rw (← z) (go i (near-most xs c t i g))
   where
-    go : (j : ℕ) → j ≤ count xs → given (cursorAt j) ≡ given (on i) → IsNode xs i
-    go zero m h = absurd (let z : _≡_ {A = ℕ} 0 1 = cc in omega arith)
-    go (suc j) m h = let z : suc j ≡ i = cc in rw (← z) (record { some = omega arith; most = m })
+    go : (i : ℕ) → i ≤ count xs → NearestIn xs (cursorAt i)
+    go zero m = tt
+    go (suc i) m = record { some = omega arith; most = m }

@@ -58,3 +58,8 @@ nearest xs c t = demand (headerHolds xs) damaged (reading (nearAt xs c t) (λ i.
 abbrev pub NearestIs : List ℕ → Cut → List ℕ → Cursor → Type 0
 NearestIs xs c t nowhere = Least (cmpOf c) (admits c t) (held xs) none
 NearestIs xs c t (on i) = IsNode xs i × Least (cmpOf c) (admits c t) (held xs) (some ((entryOf xs i) .key))
+
+-- the answer names a node of the table, or none
+abbrev pub NearestIn : List ℕ → Cursor → Type 0
+NearestIn xs nowhere = Unit
+NearestIn xs (on i) = IsNode xs i

@@ -10,4 +10,5 @@ pub mod Looking
 pub mod Inserting
 pub mod Answers
 pub mod Lookups
+pub mod Asking
 pub mod Checking

@@ -5,4 +5,5 @@ pub mod Nodes
 pub mod Skipmap
 pub mod Refusals
 pub mod Memtable
+pub mod Questions
 pub mod Check

@@ -7,4 +7,5 @@ pub mod nodes; // nodes.rt: header and nodes of an image
 pub mod skipmap; // skipmap.rt: the search
 pub mod refusals; // refusals.rt: why a call is refused
 pub mod memtable; // memtable.rt: the calls on one table
+pub mod questions; // questions.rt: what the layer above asks of one table
 pub mod check; // check.rt: whether an image is sound
