@@ -20,8 +20,8 @@ use Rattle.image.specs.Nodes.{count, free, slot, Lead, leadOf, heightOf,
 use Rattle.image.specs.Sound.{Sound, held}
 use Rattle.image.specs.Search.{OnEqual, toStop, toGoDown, turnBy, Found, hit, ends, standing, passed}
 use Rattle.image.specs.Refusals.{Answer, given}
-use Rattle.image.specs.EntryMoves.{Cursor, nowhere, on, cursorAt, inTable, EntryMove, first, seek, next, previous, follow, smaller, moved, entryMove}
-use Rattle.image.specs.Meaning.{IsNode, Foremost, Leads}
+use Rattle.image.specs.EntryMoves.{Cursor, nowhere, on, cursorAt, inTable, EntryMove, first, seek, next, previous, follow, lastBefore, moved, entryMove}
+use Rattle.image.specs.Meaning.{IsNode, Stands, Fitting, Foremost, Leads}
 use Rattle.image.proofs.Nodes.{leadFor, lead-read, node-entry}
 use Rattle.image.proofs.Chains.{last, last-middle, tall-all, Linked, link-lands}
 use Rattle.image.proofs.Chains as chains
@@ -153,7 +153,7 @@ module _ (xs : List ℕ) (s : Sound xs) where
       go (hit x looks) f = absurd (true≢false (sym ((q .hits x looks f) .1) ∙ down-stop k n x))
       go (ends p x looks prev) f = rw ((q .misses p x looks prev f) .last-passed) (foremost-last (λ e. isLess (compareEntries (e .key) (e .number) k n)) (q .before) (q .behind) (q .split) (λ x m. sym (down-pass k n x) ∙ q .passes x m) (λ x m. sym (down-pass k n x) ∙ q .refuses x m))
 
-  back : (i : ℕ) → IsNode xs i → (d : Cursor) × (bind (leadOf xs i) (smaller xs) ≡ got d) × Foremost (λ e f. order f e) (λ e. isLess (order e (entryOf xs i))) xs d
+  back : (i : ℕ) → IsNode xs i → (d : Cursor) × (bind (leadOf xs i) (λ m. lastBefore xs (keyIn xs (m .keyed)) (numberIn (m .keyed))) ≡ got d) × Foremost (λ e f. order f e) (λ e. isLess (order e (entryOf xs i))) xs d
   back i n = let q = search-sound xs s toGoDown ((entryOf xs i) .key) ((entryOf xs i) .number) in (
     cursorAt (passed (q .found)),
     rw (lead-is i n) (goes q),
@@ -166,22 +166,10 @@ module _ (xs : List ℕ) (s : Sound xs) where
       number-is : numberIn ((leadFor (slot xs i) (heightOf xs i) (entryOf xs i)) .keyed) ≡ (entryOf xs i) .number
       number-is = ap (λ (e : Entry). e .number) (node-entry xs (free xs) (slot xs i) (heightOf xs i) (entryOf xs i) (omega (arith, s .header .high)) (s .reads i (n .some) (n .most)))
 
-      goes : (q : Searched xs s toGoDown ((entryOf xs i) .key) ((entryOf xs i) .number)) → smaller xs (leadFor (slot xs i) (heightOf xs i) (entryOf xs i)) ≡ got (cursorAt (passed (q .found)))
+      goes : (q : Searched xs s toGoDown ((entryOf xs i) .key) ((entryOf xs i) .number)) → lastBefore xs (keyIn xs ((leadFor (slot xs i) (heightOf xs i) (entryOf xs i)) .keyed)) (numberIn ((leadFor (slot xs i) (heightOf xs i) (entryOf xs i)) .keyed)) ≡ got (cursorAt (passed (q .found)))
       goes q = rw (entry-is, number-is, q .search)
 
-  -- a cursor in the table
-  abbrev pub Stands : Cursor → Type 0
-  Stands nowhere = Unit
-  Stands (on i) = IsNode xs i
-
-  -- arguments within the limits
-  abbrev pub Fitting : EntryMove → Type 0
-  Fitting first = Unit
-  Fitting (seek k n) = (n ≤ maxNumber) × (length k ≤ maxKey)
-  Fitting next = Unit
-  Fitting previous = Unit
-
-  moved-leads : (m : EntryMove) (c : Cursor) → Stands c → (d : Cursor) × (moved xs m c ≡ got d) × Leads xs m c d
+  moved-leads : (m : EntryMove) (c : Cursor) → Stands xs c → (d : Cursor) × (moved xs m c ≡ got d) × Leads xs m c d
   moved-leads first c h = (cursorAt (chains.first (s .sequence)), follow-head, start _ refl)
   moved-leads (seek k n) c h = let q = search-sound xs s toStop k n in (cursorAt (standing (q .found)), rw (q .search), sought k n q)
   moved-leads next nowhere h = (cursorAt (chains.first (s .sequence)), follow-head, start _ refl)
@@ -190,15 +178,15 @@ module _ (xs : List ℕ) (s : Sound xs) where
   moved-leads previous (on i) h = back i h
 
   -- each move is accepted, and leads where the order says
-  pub move-leads : (m : EntryMove) (c : Cursor) → Stands c → Fitting m → (d : Cursor) × (entryMove xs m c ≡ given d) × Leads xs m c d
+  pub move-leads : (m : EntryMove) (c : Cursor) → Stands xs c → Fitting m → (d : Cursor) × (entryMove xs m c ≡ given d) × Leads xs m c d
   unfolding entryMove
   move-leads m c h f = let (d, g, l) = moved-leads m c h in (d, accepted m c h f d g, l)
     where
-      in-table : (c : Cursor) → Stands c → inTable xs c ≡ true
+      in-table : (c : Cursor) → Stands xs c → inTable xs c ≡ true
       in-table nowhere h = refl
       in-table (on i) h = rw (le-leb 1 i (h .some), le-leb i (count xs) (h .most))
 
-      accepted : (m : EntryMove) (c : Cursor) → Stands c → Fitting m → (d : Cursor) → moved xs m c ≡ got d → entryMove xs m c ≡ given d
+      accepted : (m : EntryMove) (c : Cursor) → Stands xs c → Fitting m → (d : Cursor) → moved xs m c ≡ got d → entryMove xs m c ≡ given d
       accepted first c h f d g = rw (header-complete xs (s .header), in-table c h, g)
       accepted (seek k n) c h f d g = rw (header-complete xs (s .header), in-table c h, le-leb n maxNumber (f .0), le-leb (length k) maxKey (f .1), g)
       accepted next c h f d g = rw (header-complete xs (s .header), in-table c h, g)

@@ -19,9 +19,9 @@ use Rattle.image.specs.Nodes.{count, entryOf, linkPlace, linkOf}
 use Rattle.image.specs.Sound.{Sound, headerHolds}
 use Rattle.image.specs.Search.{OnEqual, toStop, toGoDown, toPass, turnBy, Found, hit, ends, searched, standing, passed}
 use Rattle.image.specs.Refusals.{given, damaged}
-use Rattle.image.specs.EntryMoves.{Cursor, nowhere, on, cursorAt}
-use Rattle.image.specs.Meaning.{Foremost}
-use Rattle.image.specs.Cuts.{Cut, all, from, above, below, cmpOf, admits, pastOf, nearAt, nearest, NearestIs, NearestIn}
+use Rattle.image.specs.EntryMoves.{Cursor, nowhere, on, cursorAt, lastBefore}
+use Rattle.image.specs.Meaning.{Stands, Foremost}
+use Rattle.image.specs.Cuts.{Cut, all, from, above, below, cmpOf, admits, pastOf, nearAt, nearest, NearestIs}
 use Rattle.image.proofs.Refusals.{demand-given, reading-given}
 use Rattle.image.proofs.Readers.{got-same, bind-got, check-got}
 use Rattle.image.proofs.Chains.{first, last}
@@ -119,9 +119,9 @@ module _ (xs : List ℕ) (s : Sound xs) where
 
     -- where the search passes what the cut leaves out, it stands at the answer
     upward : (mode : OnEqual) (n : ℕ) → ((e f : Entry) → isLess (order e f) ≡ false → isLess (cmpOf c (e .key) (f .key)) ≡ false) → All (λ x. passTest xs mode t n x ≡ not (admits c t (keyOf x))) (s .sequence)
-        → (i : ℕ) × (bind (searched xs mode t n) (λ r. got (standing r)) ≡ got i) × NearestIs xs c t (cursorAt i)
+        → (d : Cursor) × (bind (searched xs mode t n) (λ r. got (cursorAt (standing r))) ≡ got d) × NearestIs xs c t d
     upward mode n keeps pass = let q = search-sound xs s mode t n in let p = rw (q .split) at pass in (
-      standing (q .found),
+      cursorAt (standing (q .found)),
       rw (q .search),
       rw (q .stands) (nearest-by order keeps (cursorAt (first (q .behind))) (foremost-first xs s (λ e. admits c t (e .key)) (q .before) (q .behind) (q .split)
           (λ x m. not-true _ (sym (all-left (q .before) (q .behind) p x m) ∙ q .passes x m)) (λ x m. not-false _ (sym (all-right (q .before) (q .behind) p x m) ∙ q .refuses x m)))),
@@ -129,9 +129,9 @@ module _ (xs : List ℕ) (s : Sound xs) where
 
     -- where it passes what the cut admits, the last node passed is the answer
     downward : (n : ℕ) → ((e f : Entry) → isLess (order f e) ≡ false → isLess (cmpOf c (e .key) (f .key)) ≡ false) → All (λ x. passTest xs toGoDown t n x ≡ admits c t (keyOf x)) (s .sequence)
-        → (i : ℕ) × (bind (searched xs toGoDown t n) (λ r. got (passed r)) ≡ got i) × NearestIs xs c t (cursorAt i)
+        → (d : Cursor) × (lastBefore xs t n ≡ got d) × NearestIs xs c t d
     downward n keeps pass = let q = search-sound xs s toGoDown t n in (
-      passed (q .found),
+      cursorAt (passed (q .found)),
       rw (q .search),
       rw (last-passed q (q .found) refl) (nearest-by (λ e f. order f e) keeps (cursorAt (last 0 (q .before))) (foremost-last xs s (λ e. admits c t (e .key)) (q .before) (q .behind) (q .split)
           (λ x m. sym (all-left (q .before) (q .behind) (rw (q .split) at pass) x m) ∙ q .passes x m) (λ x m. sym (all-right (q .before) (q .behind) (rw (q .split) at pass) x m) ∙ q .refuses x m))),
@@ -142,13 +142,8 @@ module _ (xs : List ℕ) (s : Sound xs) where
         last-passed q (ends p x looks prev) f = (q .misses p x looks prev f) .last-passed
 
   -- the nearest key behind a cut: never damaged, and the right one
-  pub near-right : (c : Cut) (t : List ℕ) → (i : ℕ) × (nearAt xs c t ≡ got i) × NearestIs xs c t (cursorAt i)
-  unfolding nearAt
-  near-right all t = let (p, q) = check-got (leb (linkOf xs 0 0) (count xs)) (linkPlace xs 0 0) (got (cursorAt (linkOf xs 0 0))) _ (follow-head xs s) in (
-    linkOf xs 0 0,
-    rw p,
-    rw (got-same q) (nearest-by all t order key-order (cursorAt (first (s .sequence))) (foremost-first xs s (λ e. true) [] (s .sequence) refl (all-nil _) (λ x m. refl))),
-  )
+  near-right : (c : Cut) (t : List ℕ) → (d : Cursor) × (nearAt xs c t ≡ got d) × NearestIs xs c t d
+  near-right all t = (cursorAt (first (s .sequence)), follow-head xs s, nearest-by all t order key-order (cursorAt (first (s .sequence))) (foremost-first xs s (λ e. true) [] (s .sequence) refl (all-nil _) (λ x m. refl)))
   near-right from t = upward from t toStop maxNumber key-order (λ x m. before-pass toStop t (stop-pass xs t maxNumber) x m ∙ sym (not-not (isLess (compareKeys (keyOf x) t))))
     where
       not-not : (b : Bool) → not (not b) ≡ b
@@ -159,22 +154,28 @@ module _ (xs : List ℕ) (s : Sound xs) where
 
   pub nearest-right : (c : Cut) (t : List ℕ) → (d : Cursor) × (nearest xs c t ≡ given d) × NearestIs xs c t d
   unfolding nearest
-  nearest-right c t = let (i, e, n) = near-right c t in (cursorAt i, rw (header-complete xs (s .header), e), n)
+  nearest-right c t = let (d, e, n) = near-right c t in (d, rw (header-complete xs (s .header), e), n)
 
 -- ---- on any bytes
 
--- the node that answers is one of the table
-pub near-most : (xs : List ℕ) (c : Cut) (t : List ℕ) (i : ℕ) → nearAt xs c t ≡ got i → i ≤ count xs
-unfolding nearAt
-near-most xs all t i e = let (p, q) = check-got (leb (linkOf xs 0 0) (count xs)) (linkPlace xs 0 0) _ i e in rw (got-same q) at (leb-true (linkOf xs 0 0) (count xs) p)
-near-most xs from t i e = let (r, f, g) = bind-got (searched xs toStop t maxNumber) (λ r. got (standing r)) i e in rw (got-same g) at (standing-most xs toStop t maxNumber r f)
-near-most xs above t i e = let (r, f, g) = bind-got (searched xs toPass t 0) (λ r. got (standing r)) i e in rw (got-same g) at (standing-most xs toPass t 0 r f)
-near-most xs below t i e = let (r, f, g) = bind-got (searched xs toGoDown t maxNumber) (λ r. got (passed r)) i e in rw (got-same g) at (passed-most xs toGoDown t maxNumber r f)
+module _ (xs : List ℕ) where
+  stands-at : (i : ℕ) (d : Cursor) → i ≤ count xs → got (cursorAt i) ≡ got d → Stands xs d
+  stands-at i d m e = rw (← got-same e) (go i m)
+    where
+      go : (i : ℕ) → i ≤ count xs → Stands xs (cursorAt i)
+      go zero m = tt
+      go (suc i) m = record { some = omega arith; most = m }
 
-pub nearest-in : (xs : List ℕ) (c : Cut) (t : List ℕ) (d : Cursor) → nearest xs c t ≡ given d → NearestIn xs d
-unfolding nearest
-nearest-in xs c t d e = let (_, f) = demand-given (headerHolds xs) damaged _ d e in let (i, g, h) = reading-given (nearAt xs c t) (λ i. given (cursorAt i)) d f in let z : cursorAt i ≡ d = cc in rw (← z) (go i (near-most xs c t i g))
-  where
-    go : (i : ℕ) → i ≤ count xs → NearestIn xs (cursorAt i)
-    go zero m = tt
-    go (suc i) m = record { some = omega arith; most = m }
+  landed : (mode : OnEqual) (node : Found → ℕ) (t : List ℕ) (n : ℕ) → ((r : Found) → searched xs mode t n ≡ got r → node r ≤ count xs) → (d : Cursor) → bind (searched xs mode t n) (λ r. got (cursorAt (node r))) ≡ got d → Stands xs d
+  landed mode node t n most d e = let (r, f, g) = bind-got (searched xs mode t n) (λ r. got (cursorAt (node r))) d e in stands-at (node r) d (most r f) g
+
+  near-in : (c : Cut) (t : List ℕ) (d : Cursor) → nearAt xs c t ≡ got d → Stands xs d
+  near-in all t d e = let (p, q) = check-got (leb (linkOf xs 0 0) (count xs)) (linkPlace xs 0 0) _ d e in stands-at (linkOf xs 0 0) d (leb-true (linkOf xs 0 0) (count xs) p) q
+  near-in from t d e = landed toStop standing t maxNumber (standing-most xs toStop t maxNumber) d e
+  near-in above t d e = landed toPass standing t 0 (standing-most xs toPass t 0) d e
+  near-in below t d e = landed toGoDown passed t maxNumber (passed-most xs toGoDown t maxNumber) d e
+
+  -- the node that answers is one of the table
+  pub nearest-in : (c : Cut) (t : List ℕ) (d : Cursor) → nearest xs c t ≡ given d → Stands xs d
+  unfolding nearest
+  nearest-in c t d e = let (_, f) = demand-given (headerHolds xs) damaged _ d e in let (b, g, h) = reading-given (nearAt xs c t) given d f in let z : b ≡ d = cc in near-in c t d (rw z at g)

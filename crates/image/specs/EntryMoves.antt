@@ -10,7 +10,7 @@ use Rattle.image.specs.Limits.{maxKey, maxNumber}
 use Rattle.image.specs.Words.{part}
 use Rattle.image.specs.Readers.{Read, got, bad, bind, check}
 use Rattle.image.specs.Entries.{Parts, keyIn, numberIn}
-use Rattle.image.specs.Nodes.{count, Lead, leadOf, nodeAt, linkPlace, linkOf}
+use Rattle.image.specs.Nodes.{count, leadOf, nodeAt, linkPlace, linkOf}
 use Rattle.image.specs.Sound.{headerHolds}
 use Rattle.image.specs.Search.{toStop, toGoDown, searched, standing, passed}
 use Rattle.image.specs.Refusals.{badImage, badNumber, longKey, noNode, Answer, refused, given, demand, reading, refusalOf}
@@ -40,18 +40,22 @@ pub data EntryMove : Type 0 where
 abbrev pub follow : List ℕ → ℕ → Read Cursor
 follow xs i = check (leb (linkOf xs i 0) (count xs)) (linkPlace xs i 0) (got (cursorAt (linkOf xs i 0)))
 
--- the last node before the key and number of a node
-abbrev pub smaller : List ℕ → Lead → Read Cursor
-smaller xs m = bind (searched xs toGoDown (keyIn xs (m .keyed)) (numberIn (m .keyed))) (λ r. got (cursorAt (passed r)))
+-- the last node before a key and a number
+abbrev pub lastBefore : List ℕ → List ℕ → ℕ → Read Cursor
+lastBefore xs k n = bind (searched xs toGoDown k n) (λ r. got (cursorAt (passed r)))
+
+-- the first node at or after a key and a number
+abbrev pub firstFrom : List ℕ → List ℕ → ℕ → Read Cursor
+firstFrom xs k n = bind (searched xs toStop k n) (λ r. got (cursorAt (standing r)))
 
 -- where a move leads from a cursor in the table
 abbrev pub moved : List ℕ → EntryMove → Cursor → Read Cursor
 moved xs first c = follow xs 0
-moved xs (seek k n) c = bind (searched xs toStop k n) (λ r. got (cursorAt (standing r)))
+moved xs (seek k n) c = firstFrom xs k n
 moved xs next nowhere = follow xs 0
 moved xs next (on i) = bind (leadOf xs i) (λ m. follow xs i)
 moved xs previous nowhere = got nowhere
-moved xs previous (on i) = bind (leadOf xs i) (smaller xs)
+moved xs previous (on i) = bind (leadOf xs i) (λ m. lastBefore xs (keyIn xs (m .keyed)) (numberIn (m .keyed)))
 
 -- what a move demands of its arguments
 abbrev pub allowed {ℓ} : {A : Type ℓ} → EntryMove → Answer A → Answer A

@@ -3,10 +3,12 @@ use Prim.Native.Nat.{ℕ, _≤_}
 use mathlib.Core.Path.{_≡_}
 use mathlib.Core.List.{List, List·Memᴰ}
 use mathlib.Core.Bool.{Bool, true, false, not}
+use lib.ListN.{length}
 use Rattle.rule.specs.Lists.{Maybe, none, some, All}
 use Rattle.rule.specs.Order.{Ord, compareEntries, isLess}
 use Rattle.rule.specs.Entries.{Entry, order, valueKind, deletionKind}
 use Rattle.rule.specs.Rows.{newest}
+use Rattle.image.specs.Limits.{maxKey, maxNumber}
 use Rattle.image.specs.Nodes.{count, entryOf}
 use Rattle.image.specs.Sound.{held}
 use Rattle.image.specs.Lookup.{Looked, found, deleted, absent}
@@ -16,6 +18,18 @@ use Rattle.image.specs.EntryMoves.{Cursor, nowhere, on, EntryMove, first
 pub record IsNode (xs : List ℕ) (i : ℕ) : Type 0 where
   pub some : 1 ≤ i
   pub most : i ≤ count xs
+
+-- a cursor in the table
+abbrev pub Stands : List ℕ → Cursor → Type 0
+Stands xs nowhere = Unit
+Stands xs (on i) = IsNode xs i
+
+-- arguments of a move within their limits
+abbrev pub Fitting : EntryMove → Type 0
+Fitting first = Unit
+Fitting (seek k n) = (n ≤ maxNumber) × (length k ≤ maxKey)
+Fitting next = Unit
+Fitting previous = Unit
 
 -- a lookup tells of the newest entry of k up to s: its node if it is a value, that it is a deletion, or that there is none
 abbrev pub Tells : List ℕ → List ℕ → ℕ → Looked → Type 0

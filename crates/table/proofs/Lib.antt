@@ -12,3 +12,5 @@ pub mod Answers
 pub mod Lookups
 pub mod Asking
 pub mod Checking
+pub mod Cursors
+pub mod Views

@@ -7,3 +7,5 @@ pub mod Refusals
 pub mod Memtable
 pub mod Questions
 pub mod Check
+pub mod MemtableIter
+pub mod EntryViews

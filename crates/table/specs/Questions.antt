@@ -2,11 +2,11 @@
 use Prim.Native.Nat.{ℕ}
 use mathlib.Core.Path.{_≡_}
 use mathlib.Core.List.{List}
-use Rattle.image.specs.Readers.{Read}
 use Rattle.image.specs.Sound.{Sound}
-use Rattle.image.specs.Refusals.{damaged, Answer, refused, given, reading}
-use Rattle.image.specs.EntryMoves.{Cursor, nowhere, on, cursorAt}
-use Rattle.image.specs.Cuts.{Cut as CutIs, all, from, above, below, nearest, NearestIs, NearestIn}
+use Rattle.image.specs.Refusals.{damaged, Answer, refused, given}
+use Rattle.image.specs.EntryMoves.{Cursor, nowhere, on}
+use Rattle.image.specs.Meaning.{Stands}
+use Rattle.image.specs.Cuts.{Cut as CutIs, all, from, above, below, nearest, NearestIs}
 use Rattle.image.specs.Newest.{NewestAt as NewestAtIs, value, deletion, nothing, newestAt, NewestIs, NewestIn}
 use Rattle.table.specs.declared.questions.Cut.{Cut}
 use Rattle.table.specs.declared.questions.Cut.the-variants.{All, From, Above, Below}
@@ -42,14 +42,10 @@ hitAs (hit.At i) = given (on i)
 hitAs hit.Nothing = given nowhere
 hitAs hit.Damaged = refused damaged
 
--- the answer of what was read
-abbrev pub hitRead : Read ℕ → Answer Cursor
-hitRead r = reading r (λ i. given (cursorAt i))
-
 pub record Nears (xs : List ℕ) (c : CutIs) (t : List ℕ) (r : Hit) : Type 0 where
   pub exact : hitAs r ≡ nearest xs c t
   pub rule : Sound xs → Gives (NearestIs xs c t) (hitAs r)
-  pub range : IfGiven (NearestIn xs) (hitAs r)
+  pub range : IfGiven (Stands xs) (hitAs r)
 
 -- ---- newest
 

@@ -1,29 +1,26 @@
 // What the layer above asks of one table: the nearest key behind a cut, the newest entry of a key, and the order of keys.
 // None of it asks anything of its caller: a bad header is damage, like any other fault that is met. Nothing here writes.
 ghost use mathlib.Core.Path.{_≡_};
-ghost use mathlib.Core.List.{List};
-ghost use Prim.Native.Nat.{ℕ};
 ghost use Rattle.rule.specs.Order.{compareKeys, isLess};
-ghost use Rattle.image.specs.Readers.{got, bind};
-ghost use Rattle.image.specs.Sound.{Header};
-ghost use Rattle.image.specs.Search.{standing, passed};
 ghost use Rattle.image.specs.Refusals.{given};
-ghost use Rattle.image.specs.EntryMoves.{cursorAt};
-ghost use Rattle.image.specs.Cuts.{all, cmpOf, pastOf, nearAt};
+ghost use Rattle.image.specs.Cuts.{cmpOf, pastOf};
 ghost use Rattle.image.specs.Newest.{withNode};
-ghost use Rattle.table.specs.Skipmap.{searchRead};
 ghost use Rattle.table.specs.Memtable.{saidAs, andThen};
-ghost use Rattle.table.specs.Questions.{cutOf, hitAs, hitRead, Nears, newestAs, TellsNewest};
+ghost use Rattle.table.specs.MemtableIter.{foundAs};
+ghost use Rattle.table.specs.Questions.{cutOf, hitAs, Nears, newestAs, TellsNewest};
 use crate::key_types::Number;
 use crate::key_types::Ordering;
 use crate::key_types::compare_keys;
 use crate::memtable::Said;
 use crate::memtable::said_at;
-use crate::nodes::count;
+use crate::memtable_iter::EntryCursor;
+use crate::memtable_iter::EntryFound;
+use crate::memtable_iter::at_or_after;
+use crate::memtable_iter::first_entry;
+use crate::memtable_iter::last_before;
+use crate::memtable_iter::standing;
 use crate::nodes::header_holds;
-use crate::nodes::link_of;
 use crate::skipmap::OnEqual;
-use crate::skipmap::Searched;
 use crate::skipmap::Spot;
 use crate::skipmap::search;
 
@@ -77,57 +74,16 @@ pub enum Hit {
     Damaged,
 }
 
-// A node number as an answer; 0 is none.
-fn hit_at(node: usize) -> Hit
-    ensures { λ r. ⌜ hitAs r ≡ given (cursorAt node) ⌝ }
+// A cursor as an answer.
+fn hit_at(found: EntryFound) -> Hit
+    ensures { λ r. ⌜ hitAs r ≡ foundAs found ⌝ }
 {
-    if node < 1 {
-        return Hit::Nothing;
-    }
-    Hit::At(node)
-}
-
-// The first node of all.
-fn first(s: &[u8]) -> Hit
-    requires { ⌜ Header (now s) ⌝ }
-    ensures { λ r. ⌜ ((t : List ℕ) → hitAs r ≡ hitRead (nearAt (now (s .entry)) all t)) ⌝ }
-{
-    let node = link_of(s, 0, 0);
-    if node > count(s) {
+    let EntryFound::At(c) = found else {
         return Hit::Damaged;
-    }
-    hit_at(node)
-}
-
-// The node at which a search stands.
-fn standing(found: Searched) -> Hit
-    ensures { λ r. ⌜ hitAs r ≡ hitRead (bind (searchRead found) (λ f. got (standing f))) ⌝ }
-{
-    let spot = found.spot;
-    match spot {
-        Spot::Bad(_) => Hit::Damaged,
-        Spot::Hit { node, looks: _ } => hit_at(node),
-        Spot::Ends {
-            before: _,
-            after,
-            looks: _,
-        } => hit_at(after),
-    }
-}
-
-// The node that a search passed last.
-fn passed(found: Searched) -> Hit
-    ensures { λ r. ⌜ hitAs r ≡ hitRead (bind (searchRead found) (λ f. got (passed f))) ⌝ }
-{
-    let spot = found.spot;
-    match spot {
-        Spot::Bad(_) => Hit::Damaged,
-        Spot::Hit { node: _, looks: _ } => Hit::Nothing,
-        Spot::Ends {
-            before,
-            after: _,
-            looks: _,
-        } => hit_at(before),
+    };
+    match c {
+        EntryCursor::Nowhere => Hit::Nothing,
+        EntryCursor::On(node) => Hit::At(node),
     }
 }
 
@@ -139,10 +95,10 @@ pub fn near(s: &[u8], cut: Cut, key: &[u8]) -> Hit
         return Hit::Damaged;
     }
     match cut {
-        Cut::All => first(s),
-        Cut::From => standing(search(s, OnEqual::Stop, key, Number::MAX)),
-        Cut::Above => standing(search(s, OnEqual::Pass, key, 0)),
-        Cut::Below => passed(search(s, OnEqual::GoDown, key, Number::MAX)),
+        Cut::All => hit_at(first_entry(s)),
+        Cut::From => hit_at(at_or_after(s, key, Number::MAX)),
+        Cut::Above => hit_at(standing(search(s, OnEqual::Pass, key, 0))),
+        Cut::Below => hit_at(last_before(s, key, Number::MAX)),
     }
 }
 

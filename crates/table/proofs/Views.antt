@@ -1,0 +1,128 @@
+-- The ways out of the views at an entry cursor.
+use Prim.Native.Nat.{ℕ, _+_, _-_, _%_, _/_, _≤_}
+use native.Mathlib.Omega.{arith}
+use mathlib.Core.Path.{_≡_, refl, sym, ap, _∙_}
+use mathlib.Core.Logic.{⊎-elim}
+use mathlib.Core.List.{List, [], _∷_}
+use mathlib.Core.Bool.{Bool, true, false}
+use lib.ListN.{length, take, drop}
+use lib.Dec.{eqb}
+use borrow.Author.Tests.{eq-eqb, ne-eqb}
+use types.Run.{OneOf}
+use denote.Enum.Declared.{tagOf}
+use Rattle.table.proofs.entry_views.PartsOn.{the-type}
+use Rattle.rule.specs.Lists.{Maybe, none, some}
+use Rattle.rule.specs.Entries.{valueKind}
+use Rattle.image.specs.Readers.{Read, got, bad}
+use Rattle.image.specs.Words.{part}
+use Rattle.image.specs.Entries.{numberIn, Parts as PartsIs}
+use Rattle.image.specs.Nodes.{Node as NodeIs, nodeAt}
+use Rattle.image.specs.Sound.{headerHolds}
+use Rattle.image.specs.Refusals.{damaged, refusalOf, Answer, refused, given, reading}
+use Rattle.image.specs.EntryMoves.{Cursor, nowhere, on, inTable, partsOn, Span, emptySpan, view, viewed, kindIn, keySpan, valueSpan, keyView, valueView, numberView, kindView, viewRefusal}
+use Rattle.table.specs.Entries.{partsOf}
+use Rattle.table.specs.Refusals.{refusalIs}
+use Rattle.table.specs.Nodes.{Numbered, toNode}
+use Rattle.table.specs.MemtableIter.{cursorIs, Tested}
+use Rattle.table.specs.EntryViews.{partsOnAs, PartsLie, PartsOfNode, PartsOnIs, shownNumber}
+use Rattle.table.proofs.Lookups.{parts-inside}
+use Rattle.table.proofs.Cursors.{test-refuses}
+use Rattle.table.specs.declared.refusals.Refusal.{Refusal}
+use Rattle.table.specs.declared.refusals.Refusal.the-variants as refusal
+use Rattle.table.specs.declared.entries.Parts.{Parts}
+use Rattle.table.specs.declared.nodes.Node.{Node as NodeRecord}
+use Rattle.table.specs.declared.memtable_iter.EntryCursor.{EntryCursor}
+use Rattle.table.specs.declared.memtable_iter.EntryCursor.the-variants.{Nowhere, On}
+use Rattle.table.specs.declared.memtable_iter.CursorTest.{CursorTest}
+use Rattle.table.specs.declared.memtable_iter.CursorTest.the-variants.{Passed, Failed}
+use Rattle.table.specs.declared.entry_views.PartsOn.{PartsOn}
+use Rattle.table.specs.declared.entry_views.PartsOn.the-variants as parts
+
+-- ---- the parts
+
+pub parts-bad : (xs : List ℕ) (i : ℕ) {o : ℕ} → bad o ≡ nodeAt xs i → PartsOfNode xs i (parts.Refused refusal.Damaged)
+parts-bad xs i e = record { exact = rw (← e); lie = tt }
+
+pub parts-got : (xs : List ℕ) (i : ℕ) (m : NodeRecord) → Numbered xs i → got (toNode m) ≡ nodeAt xs i → PartsOfNode xs i (parts.Node (m .parts))
+parts-got xs i m n e = let (a, b) = parts-inside xs i (n .header) e in record { exact = rw (← e); lie = (a, b) }
+
+refuses-parts : (xs : List ℕ) (d : Cursor) (q : Refusal) → Tested xs d (Failed q) → refused (refusalIs q) ≡ partsOn xs d
+unfolding partsOn
+refuses-parts xs nowhere q f = test-refuses xs nowhere q f _
+refuses-parts xs (on i) q f = test-refuses xs (on i) q f _
+
+module _ (xs : List ℕ) (c : EntryCursor) {t : CursorTest} (tested : Tested xs (cursorIs c) t) where
+  pub parts-refused : {q : Refusal} → t ≡ Failed q → PartsOnIs xs (cursorIs c) (parts.Refused q)
+  parts-refused {q} e = record { exact = refuses-parts xs (cursorIs c) q (rw e at tested); lie = tt }
+
+  pub parts-nowhere : t ≡ Passed → c ≡ Nowhere → PartsOnIs xs (cursorIs c) parts.Nowhere
+  unfolding partsOn
+  parts-nowhere e f = let (a, b) = rw e at tested in record { exact = rw (f, a); lie = tt }
+
+  pub parts-node : t ≡ Passed → {i : ℕ} → c ≡ On i → (r : PartsOn) → PartsOfNode xs i r → PartsOnIs xs (cursorIs c) r
+  unfolding partsOn
+  parts-node e {i} f r p = let (a, b) = rw e at tested in let d : inTable xs (on i) ≡ true = rw f at b in record { exact = p .exact ∙ sym (rw (f, a, d)); lie = p .lie }
+
+-- ---- the views
+
+-- a view of nothing: nowhere, or refused
+abbrev pub Bare : PartsOn → Type 0
+Bare parts.Nowhere = Unit
+Bare (parts.Node p) = ⊥
+Bare (parts.Refused q) = Unit
+
+-- what a `let .. else` that asks for a node knows in its else
+pub bare-else : (r : PartsOn) → OneOf (0 ∷ 2 ∷ []) (tagOf the-type r) → Bare r
+bare-else parts.Nowhere k = tt
+bare-else (parts.Node p) k = ⊎-elim (λ e. omega arith) (λ e. omega arith) k
+bare-else (parts.Refused q) k = tt
+
+module _ (xs : List ℕ) (c : Cursor) (r : PartsOn) (is : PartsOnIs xs c r) where
+  -- the bytes of a view
+  bytes-of : (show : PartsIs → Span) → viewed xs (view show emptySpan (partsOnAs r)) ≡ viewed xs (view show emptySpan (partsOn xs c))
+  bytes-of show = ap (λ (a : Answer (Maybe PartsIs)). viewed xs (view show emptySpan a)) (is .exact)
+
+  number-of : (show : PartsIs → ℕ) → shownNumber (view show 0 (partsOnAs r)) ≡ shownNumber (view show 0 (partsOn xs c))
+  number-of show = ap (λ (a : Answer (Maybe PartsIs)). shownNumber (view show 0 a)) (is .exact)
+
+  pub bare-bytes : Bare r → (show : PartsIs → Span) → [] ≡ viewed xs (view show emptySpan (partsOn xs c))
+  bare-bytes b show = go r b ∙ bytes-of show
+    where
+      go : (r : PartsOn) → Bare r → [] ≡ viewed xs (view show emptySpan (partsOnAs r))
+      go parts.Nowhere b = refl
+      go (parts.Node p) b = absurd b
+      go (parts.Refused q) b = refl
+
+  pub bare-number : Bare r → (show : PartsIs → ℕ) → 0 ≡ shownNumber (view show 0 (partsOn xs c))
+  bare-number b show = go r b ∙ number-of show
+    where
+      go : (r : PartsOn) → Bare r → 0 ≡ shownNumber (view show 0 (partsOnAs r))
+      go parts.Nowhere b = refl
+      go (parts.Node p) b = absurd b
+      go (parts.Refused q) b = refl
+
+  module _ (p : Parts) (node : r ≡ parts.Node p) where
+    pub shown-bytes : (show : PartsIs → Span) → viewed xs (given (show (partsOf p))) ≡ viewed xs (view show emptySpan (partsOn xs c))
+    shown-bytes show = ap (λ (q : PartsOn). viewed xs (view show emptySpan (partsOnAs q))) (sym node) ∙ bytes-of show
+
+    pub shown-number : (show : PartsIs → ℕ) → show (partsOf p) ≡ shownNumber (view show 0 (partsOn xs c))
+    shown-number show = ap (λ (q : PartsOn). shownNumber (view show 0 (partsOnAs q))) (sym node) ∙ number-of show
+
+    pub parts-lie : (p .keyed .«key_at» + p .keyed .«key_len» ≤ length xs) × (p .«value_at» + p .«value_len» ≤ length xs)
+    parts-lie = rw node at (is .lie)
+
+  -- the companion
+  pub refusal-is : refusalOf (partsOnAs r) ≡ viewRefusal xs c
+  refusal-is = ap refusalOf (is .exact)
+
+-- a part lent from at to at + len is the span
+pub span-lent : (xs : List ℕ) (at len : ℕ) → take (at + len - at) (drop at xs) ≡ part xs at len
+span-lent xs at len = let z : at + len - at ≡ len = omega arith in rw z
+
+-- what is shown of a value, by the type
+module _ (xs : List ℕ) (p : Parts) {kind : ℕ} (is : kind ≡ p .keyed .tag .word % 256) where
+  pub value-none : (kind ≡ valueKind → ⊥) → [] ≡ viewed xs (given (valueSpan (partsOf p)))
+  value-none n = rw (ne-eqb (p .keyed .tag .word % 256) valueKind (λ e. n (is ∙ e)))
+
+  pub value-shown : kind ≡ valueKind → take (p .«value_at» + p .«value_len» - p .«value_at») (drop (p .«value_at») xs) ≡ viewed xs (given (valueSpan (partsOf p)))
+  value-shown e = span-lent xs (p .«value_at») (p .«value_len») ∙ rw (eq-eqb (p .keyed .tag .word % 256) valueKind (sym is ∙ e))
