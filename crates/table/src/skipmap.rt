@@ -50,7 +50,7 @@ pub fn turn_by(mode: OnEqual, o: Ordering) -> TurnRead
 }
 
 // What the link at the place from says that names node x, or none; one that names a node too low for the level is bad.
-pub fn meet_at(
+pub(crate) fn meet_at(
     s: &[u8],
     mode: OnEqual,
     k: &[u8],
@@ -139,7 +139,7 @@ impl Searched {
 }
 
 // From the head's top level: passes a node while it is smaller, else goes down; stops on equality or below level 0.
-pub fn search(s: &[u8], mode: OnEqual, k: &[u8], number: u64) -> Searched
+pub(crate) fn search(s: &[u8], mode: OnEqual, k: &[u8], number: u64) -> Searched
     requires { ⌜ Header (now s) ⌝ }
     ensures { λ r. ⌜ searchRead r ≡ searched (now (s .entry)) (modeOf mode) (now (k .entry)) number ⌝ }
 {
