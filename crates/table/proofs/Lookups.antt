@@ -12,7 +12,7 @@ use Rattle.rule.specs.Order.{compareKeys, isEqual}
 use Rattle.rule.specs.Entries.{valueKind}
 use Rattle.image.specs.Limits.{maxKey, maxNumber}
 use Rattle.image.specs.Readers.{Read, got, bad, bind}
-use Rattle.image.specs.Words.{part}
+use Rattle.image.specs.Entries.{keyIn}
 use Rattle.image.specs.Nodes.{count, free, slot, Node, nodeAt}
 use Rattle.image.specs.Sound.{Header, headerHolds}
 use Rattle.image.specs.Search.{toStop, Found, hit, ends, searched}
@@ -59,10 +59,10 @@ module _ (xs k : List ℕ) where
   said-bad zero h e = absurd (omega arith)
   said-bad (suc i) h e = rw (← e)
 
-  pub said-node : (i : ℕ) → 1 ≤ i → {n : Node} → got n ≡ nodeAt xs i → {same : Bool} → same ≡ isEqual (compareKeys (part xs (n .parts .keyed .keyAt) (n .parts .keyed .keyAt + n .parts .keyed .keyLen - n .parts .keyed .keyAt)) k)
+  pub said-node : (i : ℕ) → 1 ≤ i → {n : Node} → got n ≡ nodeAt xs i → {key : List ℕ} → key ≡ keyIn xs (n .parts .keyed) → {same : Bool} → same ≡ isEqual (compareKeys key k)
       → {kind : ℕ} → kind ≡ n .parts .keyed .tagIs % 256 → {r : Answer Looked} → r ≡ says same kind i → r ≡ reading (saidAt xs k i) given
-  said-node zero h e s t f = absurd (omega arith)
-  said-node (suc i) h {n} e s t f = let z : n .parts .keyed .keyAt + n .parts .keyed .keyLen - n .parts .keyed .keyAt ≡ n .parts .keyed .keyLen = omega arith in f ∙ rw (← e, s, z, t)
+  said-node zero h e p s t f = absurd (omega arith)
+  said-node (suc i) h e p s t f = f ∙ rw (← e, s, p, t)
 
 -- to go on with what was read
 pub read-on {ℓ κ} : {A : Type ℓ} {B : Type κ} (r : Read A) (f : A → Answer B) {m : Answer A} → m ≡ reading r given → {b : Answer B} → b ≡ andThen m f → b ≡ reading r f

@@ -15,6 +15,7 @@ ghost use Rattle.table.specs.Memtable.{Freshens, addedAs, Adds, InTable,
 ghost use Rattle.table.specs.Insert.{insertedAs};
 use crate::entries::MAX_KEY;
 use crate::entries::MAX_VALUE;
+use crate::entries::key_in;
 use crate::insert::Inserted;
 use crate::insert::fresh_header;
 use crate::insert::insert;
@@ -153,9 +154,7 @@ pub(crate) fn said_at(s: &[u8], key: &[u8], node: usize) -> Said
         NodeRead::Bad(_) => Said::Damaged,
         NodeRead::Got(m) => {
             let keyed = m.parts.keyed;
-            let at = keyed.key_at;
-            let end = at + keyed.key_len;
-            let same = is_equal(compare_keys(&s[at..end], key));
+            let same = is_equal(compare_keys(key_in(s, keyed), key));
             let tag = keyed.tag;
             says(same, tag.kind())
         }

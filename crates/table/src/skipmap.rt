@@ -9,6 +9,7 @@ ghost use Rattle.image.specs.Sound.{Header};
 ghost use Rattle.image.specs.Search.{turnBy, hit, ends, meet, searched};
 ghost use Rattle.table.specs.KeyTypes.{ordOf};
 ghost use Rattle.table.specs.Skipmap.{modeOf, turnRead, searchRead};
+use crate::entries::key_in;
 use crate::key_types::Ordering;
 use crate::key_types::compare_entries;
 use crate::nodes::HEAD_LINKS;
@@ -74,9 +75,7 @@ pub(crate) fn meet_at(
             }
             let keyed = m.keyed;
             let tag = keyed.tag;
-            let key_at = keyed.key_at;
-            let key_end = key_at + keyed.key_len;
-            let o = compare_entries(&s[key_at..key_end], tag.number(), k, number);
+            let o = compare_entries(key_in(s, keyed), tag.number(), k, number);
             turn_by(mode, o)
         }
     }
