@@ -2,7 +2,9 @@
 use Prim.Native.Nat.{ℕ}
 use mathlib.Core.Path.{_≡_}
 use mathlib.Core.List.{List}
-use Rattle.image.specs.Sound.{Sound}
+use Rattle.rule.specs.Lists.{cond}
+use Rattle.image.specs.Nodes.{count}
+use Rattle.image.specs.Sound.{headerHolds, Sound}
 use Rattle.image.specs.Refusals.{damaged, Answer, refused, given}
 use Rattle.image.specs.EntryMoves.{Cursor, nowhere, on}
 use Rattle.image.specs.Meaning.{Stands}
@@ -26,6 +28,12 @@ Gives P (refused q) = ⊥
 abbrev pub IfGiven {ℓ} : {A : Type ℓ} → (A → Type 0) → Answer A → Type 0
 IfGiven P (given a) = P a
 IfGiven P (refused q) = Unit
+
+-- ---- population
+
+-- how many nodes the table has, none if its header does not hold
+abbrev pub nodesOf : List ℕ → ℕ
+nodesOf xs = cond (headerHolds xs) (count xs) 0
 
 -- ---- near
 

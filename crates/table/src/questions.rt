@@ -1,4 +1,5 @@
-// What the layer above asks of one table: the nearest key behind a cut, the newest entry of a key, and the order of keys.
+// What the layer above asks of one table: how many nodes it has, the nearest key behind a cut, the newest entry of a key, and the
+// order of keys.
 // None of it asks anything of its caller: a bad header is damage, like any other fault that is met. Nothing here writes.
 ghost use mathlib.Core.Path.{_≡_};
 ghost use Rattle.rule.specs.Order.{compareKeys, isLess};
@@ -7,7 +8,7 @@ ghost use Rattle.image.specs.Cuts.{cmpOf, pastOf};
 ghost use Rattle.image.specs.Newest.{withNode};
 ghost use Rattle.table.specs.Memtable.{saidAs, andThen};
 ghost use Rattle.table.specs.MemtableIter.{foundAs};
-ghost use Rattle.table.specs.Questions.{cutOf, hitAs, Nears, newestAs, TellsNewest};
+ghost use Rattle.table.specs.Questions.{nodesOf, cutOf, hitAs, Nears, newestAs, TellsNewest};
 use crate::key_types::Number;
 use crate::key_types::Ordering;
 use crate::key_types::compare_keys;
@@ -19,6 +20,7 @@ use crate::memtable_iter::at_or_after;
 use crate::memtable_iter::first_entry;
 use crate::memtable_iter::last_before;
 use crate::memtable_iter::standing;
+use crate::nodes::count;
 use crate::nodes::header_holds;
 use crate::skipmap::OnEqual;
 use crate::skipmap::Spot;
@@ -42,6 +44,16 @@ pub fn past(cut: Cut) -> Cut
         Cut::Above => Cut::Above,
         Cut::Below => Cut::Below,
     }
+}
+
+// How many nodes the table has; none if its header does not hold.
+pub fn population(s: &[u8]) -> usize
+    ensures { λ r. ⌜ r ≡ nodesOf (now (s .entry)) ⌝ }
+{
+    if header_holds(s) {
+        return count(s);
+    }
+    0
 }
 
 // Whether the key a is less than the key b.
