@@ -106,7 +106,8 @@ module _ (xs : List ℕ) (s : Sound xs) where
   start : (d : Cursor) → d ≡ cursorAt (chains.first (s .sequence)) → Foremost order (λ e. true) xs d
   start d e = rw e (foremost-first (λ e. true) [] (s .sequence) refl (all-nil _) (λ x m. refl))
 
-  follow-head : follow xs 0 ≡ got (cursorAt (chains.first (s .sequence)))
+  -- from the head the first node is met
+  pub follow-head : follow xs 0 ≡ got (cursorAt (chains.first (s .sequence)))
   follow-head = follow-to 0 (s .sequence) (inl refl) ((linked xs s) .start 0 (omega arith) ∙ ap chains.first (tall-all (heightOf xs) 0 (s .sequence) (positive xs s)))
 
   lead-is : (i : ℕ) → IsNode xs i → leadOf xs i ≡ got (leadFor (slot xs i) (heightOf xs i) (entryOf xs i))
@@ -127,7 +128,8 @@ module _ (xs : List ℕ) (s : Sound xs) where
   sought : (k : List ℕ) (n : ℕ) (q : Searched xs s toStop k n) → Foremost order (λ e. not (isLess (compareEntries (e .key) (e .number) k n))) xs (cursorAt (standing (q .found)))
   sought k n q = rw (q .stands) (foremost-first (λ e. not (isLess (compareEntries (e .key) (e .number) k n))) (q .before) (q .behind) (q .split) (λ x m. ap not (sym (stop-pass xs k n x) ∙ q .passes x m)) (λ x m. ap not (sym (stop-pass xs k n x) ∙ q .refuses x m)))
 
-  down-pass : (k : List ℕ) (n x : ℕ) → passTest xs toGoDown k n x ≡ isLess (probe (entryOf xs) k n x)
+  -- a search that goes down on equality passes what is before its probe, and never stops
+  pub down-pass : (k : List ℕ) (n x : ℕ) → passTest xs toGoDown k n x ≡ isLess (probe (entryOf xs) k n x)
   down-pass k n x = go (probe (entryOf xs) k n x)
     where
       go : (o : Ord) → isOnward (turnBy toGoDown o) ≡ isLess o
@@ -135,7 +137,7 @@ module _ (xs : List ℕ) (s : Sound xs) where
       go equal = refl
       go greater = refl
 
-  down-stop : (k : List ℕ) (n x : ℕ) → stopTest xs toGoDown k n x ≡ false
+  pub down-stop : (k : List ℕ) (n x : ℕ) → stopTest xs toGoDown k n x ≡ false
   down-stop k n x = go (probe (entryOf xs) k n x)
     where
       go : (o : Ord) → isHalt (turnBy toGoDown o) ≡ false

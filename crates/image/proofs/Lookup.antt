@@ -29,6 +29,12 @@ use Rattle.image.proofs.Search.{isOnward, Searched, search-sound, searc
 use Rattle.image.proofs.Held.{entryIf, lookup-right, held-has, held-from, held-single}
 use Rattle.image.proofs.Add.{Duplicates, IsDuplicate, IsNew, search-decides}
 
+-- a search that stops on equality passes what is less
+pub stop-less : (o : Ord) → isOnward (turnBy toStop o) ≡ isLess o
+stop-less less = refl
+stop-less equal = refl
+stop-less greater = refl
+
 module _ (xs : List ℕ) (s : Sound xs) where
   -- a node of a sound image is read, with its entry
   pub node-is : (i : ℕ) → IsNode xs i → (m : Node) × (nodeAt xs i ≡ got m) × (entryIn xs (m .parts) ≡ entryOf xs i)
@@ -45,7 +51,8 @@ module _ (xs : List ℕ) (s : Sound xs) where
       go [] e f = inl f
       go (y ∷ post) e f = let w = s .within y (rw e (Memᴰ·append-right (q .before) here)) in inr (rw f (record { some = w .0; most = w .1 }))
 
-  said : (k : List ℕ) (t i : ℕ) → newest k t (held xs) ≡ entryIf xs k i → (i ≡ 0) ⊎ IsNode xs i → (a : Looked) × (saidAt xs k i ≡ got a) × Tells xs k t a
+  -- what the node says at which a search stands that passes what is less
+  pub said : (k : List ℕ) (t i : ℕ) → newest k t (held xs) ≡ entryIf xs k i → (i ≡ 0) ⊎ IsNode xs i → (a : Looked) × (saidAt xs k i ≡ got a) × Tells xs k t a
   said k t zero f n = (absent, refl, f)
   said k t (suc i) f (inl z) = absurd (omega arith)
   said k t (suc i) f (inr n) = let (m, g, e) = node-is (suc i) n in (saysOf k (suc i) (entryOf xs (suc i)), rw g (ap (λ (d : Entry). got (saysOf k (suc i) d)) e), go (isEqual (compareKeys ((entryOf xs (suc i)) .key) k)) refl (eqb ((entryOf xs (suc i)) .kind) valueKind) refl f)
@@ -58,13 +65,8 @@ module _ (xs : List ℕ) (s : Sound xs) where
   -- the lookup: never refused for damage, at most n + 12 looks, and from the highest number up to the snapshot
   pub get-tells : (k : List ℕ) (t : ℕ) → t ≤ maxNumber → length k ≤ maxKey → (a : Lookup) × (get xs k t ≡ given a) × Tells xs k t (a .says) × (a .looks ≤ count xs + levels)
   unfolding get
-  get-tells k t low short = go (search-sound xs s toStop k t) (lookup-right xs s toStop passes k t)
+  get-tells k t low short = go (search-sound xs s toStop k t) (lookup-right xs s toStop stop-less k t)
     where
-      passes : (o : Ord) → isOnward (turnBy toStop o) ≡ isLess o
-      passes less = refl
-      passes equal = refl
-      passes greater = refl
-
       go : (q : Searched xs s toStop k t) → newest k t (held xs) ≡ entryIf xs k (standing (q .found)) → (a : Lookup) × (get xs k t ≡ given a) × Tells xs k t (a .says) × (a .looks ≤ count xs + levels)
       go q f = let (a, g, m) = said k t (standing (q .found)) f (stands-on k t q) in (
         record { says = a; looks = looksOf (q .found) },

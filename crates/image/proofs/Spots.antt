@@ -10,7 +10,7 @@ use borrow.Author.Tests.{leb-true}
 use Rattle.image.specs.Limits.{levels}
 use Rattle.image.specs.Readers.{got}
 use Rattle.image.specs.Nodes.{count, linkPlace, linkOf}
-use Rattle.image.specs.Search.{Turn, halt, below, OnEqual, Found, hit, ends, meet, look, searched}
+use Rattle.image.specs.Search.{Turn, halt, below, OnEqual, Found, hit, ends, meet, look, searched, standing, passed}
 use Rattle.image.proofs.Readers.{got-same, check-got}
 use Rattle.image.proofs.Machine.{find-keeps}
 use Rattle.image.proofs.Search.{Good, good-lower, look-good, searched-looks, searched-records, searched-good}
@@ -71,3 +71,12 @@ module _ (xs : List ℕ) (mode : OnEqual) (k : List ℕ) (s : ℕ) where
     wide = searched-records xs mode k s (ends p x looks prev) (sym e);
     good = searched-good xs mode k s (ends p x looks prev) (sym e);
   }
+
+  -- where it stands, and what it passed last
+  pub standing-most : (r : Found) → searched xs mode k s ≡ got r → standing r ≤ count xs
+  standing-most (hit x looks) e = (search-stopped (sym e)) .most
+  standing-most (ends p x looks prev) e = (search-ended (sym e)) .after-most
+
+  pub passed-most : (r : Found) → searched xs mode k s ≡ got r → passed r ≤ count xs
+  passed-most (hit x looks) e = omega arith
+  passed-most (ends p x looks prev) e = (search-ended (sym e)) .before-most

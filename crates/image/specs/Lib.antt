@@ -14,3 +14,5 @@ pub mod EntryMoves
 pub mod Meaning
 pub mod Check
 pub mod BootBench
+pub mod Cuts
+pub mod Newest

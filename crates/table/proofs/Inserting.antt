@@ -2,7 +2,7 @@
 use Prim.Native.Nat.{ℕ, suc, _+_, _-_, _*_, _<_, _≤_}
 use native.Mathlib.Omega.{arith}
 use native.Mathlib.Numerals.{add-one}
-use mathlib.Core.Path.{_≡_, refl, sym, ap, _∙_}
+use mathlib.Core.Path.{_≡_, refl, sym, _∙_}
 use mathlib.Core.Logic.{inl, inr}
 use mathlib.Core.List.{List}
 use mathlib.Core.Bool.{Bool, true, false, not}
@@ -22,10 +22,10 @@ use Rattle.image.specs.Add.{Grown, withEntry, hasRoom, placed, afterwards}
 use Rattle.image.proofs.Search.{Good}
 use Rattle.image.proofs.Spots.{search-ended}
 use Rattle.image.proofs.Add.{good-place, room-for}
-use Rattle.table.specs.Skipmap.{spotRead, searchRead}
+use Rattle.table.specs.Skipmap.{searchRead}
 use Rattle.table.specs.Insert.{Sized, RoomIs, Joinable, EntryFits, Insertable, insertedAs, Inserts}
+use Rattle.table.proofs.Lookups.{told}
 use Rattle.table.specs.declared.skipmap.Searched.{Searched}
-use Rattle.table.specs.declared.skipmap.Spot.{Spot}
 use Rattle.table.specs.declared.skipmap.Spot.the-variants.{Hit, Ends, Bad}
 use Rattle.table.specs.declared.insert.Inserted.the-variants.{At, Duplicate, Full, Damaged}
 
@@ -41,29 +41,25 @@ room-test xs keyLen valueLen h n size used e m f s = record { is = λ d k v. rw 
 -- ---- the answers
 
 module _ (xs : List ℕ) (e : Entry) (h : ℕ) (r : Searched) (found : searchRead r ≡ searched xs toStop (e .key) (e .number)) where
-  -- where the search ended
-  at-spot : (v : Spot) → r .spot ≡ v → spotRead v (r .prev) ≡ searched xs toStop (e .key) (e .number)
-  at-spot v s = ap (λ (t : Spot). spotRead t (r .prev)) (sym s) ∙ found
-
   pub insert-damaged : {o : ℕ} → r .spot ≡ Bad o → Inserts xs e h Damaged xs
-  insert-damaged {o} s = record { exact = rw (← at-spot (Bad o) s); bytes = rw (← at-spot (Bad o) s) }
+  insert-damaged {o} s = record { exact = rw (← told r (Bad o) found s); bytes = rw (← told r (Bad o) found s) }
 
   pub insert-duplicate : {x looks : ℕ} → r .spot ≡ Hit x looks → Inserts xs e h Duplicate xs
-  insert-duplicate {x} {looks} s = record { exact = rw (← at-spot (Hit x looks) s); bytes = rw (← at-spot (Hit x looks) s) }
+  insert-duplicate {x} {looks} s = record { exact = rw (← told r (Hit x looks) found s); bytes = rw (← told r (Hit x looks) found s) }
 
   module _ {p x looks : ℕ} (s : r .spot ≡ Ends p x looks) where
     pub insert-full : {b : Bool} → b ≡ hasRoom xs e h → not b ≡ true → Inserts xs e h Full xs
-    insert-full {b} tested said = let room : hasRoom xs e h ≡ false = sym tested ∙ not-true b said in record { exact = rw (← at-spot (Ends p x looks) s, room); bytes = rw (← at-spot (Ends p x looks) s, room) }
+    insert-full {b} tested said = let room : hasRoom xs e h ≡ false = sym tested ∙ not-true b said in record { exact = rw (← told r (Ends p x looks) found s, room); bytes = rw (← told r (Ends p x looks) found s, room) }
 
     pub insert-done : {b : Bool} → b ≡ hasRoom xs e h → not b ≡ false → (i : ℕ) (ys : List ℕ) → i ≡ count xs + 1 → ys ≡ withEntry xs e h (r .prev) → Inserts xs e h (At i) ys
-    insert-done {b} tested said i ys n f = let room : hasRoom xs e h ≡ true = sym tested ∙ not-false b said in record { exact = rw (← at-spot (Ends p x looks) s, room, n, add-one (count xs), f); bytes = rw (← at-spot (Ends p x looks) s, room) f }
+    insert-done {b} tested said i ys n f = let room : hasRoom xs e h ≡ true = sym tested ∙ not-false b said in record { exact = rw (← told r (Ends p x looks) found s, room, n, add-one (count xs), f); bytes = rw (← told r (Ends p x looks) found s, room) f }
 
     -- the recorded nodes and the entry fit
     pub insert-fits : Insertable xs e h → {b : Bool} → b ≡ hasRoom xs e h → not b ≡ false → EntryFits xs (r .prev) h e
     insert-fits ok {b} tested said =
         let head = ok .header in
         let high = ok .height-most in
-        let good = (search-ended xs toStop (e .key) (e .number) (at-spot (Ends p x looks) s)) .good in
+        let good = (search-ended xs toStop (e .key) (e .number) (told r (Ends p x looks) found s)) .good in
         let fits = room-for xs e h (record { legal = ok .legal; low = ok .height-some; high = ok .height-most }) (sym tested ∙ not-false b said) in
         record {
           joinable = record {

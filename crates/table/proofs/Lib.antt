@@ -10,6 +10,7 @@ pub mod Looking
 pub mod Inserting
 pub mod Answers
 pub mod Lookups
+pub mod Asking
 pub mod Checking
 pub mod Cursors
 pub mod Views

@@ -9,7 +9,8 @@ use lib.ListN.{length, set, replicate, length-set}
 use borrow.Author.Tests.{lt-ltb, le-ltb, le-leb, lt-leb}
 use Rattle.rule.specs.Order.{Ord, compareEntries}
 use Rattle.image.specs.Limits.{levels}
-use Rattle.image.specs.Words.{part, word}
+use Rattle.image.specs.Words.{word}
+use Rattle.image.specs.Entries.{keyIn}
 use Rattle.image.specs.Readers.{Read, got, bad, bind}
 use Rattle.image.specs.Nodes.{count, Lead, leadOf, linksAt, linkPlace, linkOf}
 use Rattle.image.specs.Sound.{Header}
@@ -37,9 +38,9 @@ module _ (xs : List ℕ) (mode : OnEqual) (k : List ℕ) (s level from : ℕ) wh
       pub meet-low : m .height ≤ level → bad from ≡ meet xs mode k s level from x
       meet-low h = rw (le-ltb level (m .height) h) at (meet-node x some lead)
 
-      pub meet-turn : level < m .height → {number : ℕ} → number ≡ m .keyed .tagIs / 256 → {o : Ord} → o ≡ compareEntries (part xs (m .keyed .keyAt) (m .keyed .keyAt + m .keyed .keyLen - m .keyed .keyAt)) number k s
+      pub meet-turn : level < m .height → {number : ℕ} → number ≡ m .keyed .tagIs / 256 → {key : List ℕ} → key ≡ keyIn xs (m .keyed) → {o : Ord} → o ≡ compareEntries key number k s
           → {t : Read Turn} → t ≡ got (turnBy mode o) → t ≡ meet xs mode k s level from x
-      meet-turn h p c f = let z : m .keyed .keyAt + m .keyed .keyLen - m .keyed .keyAt ≡ m .keyed .keyLen = omega arith in f ∙ (rw (lt-ltb level (m .height) h, ← p, ← z, ← c) at (meet-node x some lead))
+      meet-turn h p e c f = f ∙ (rw (lt-ltb level (m .height) h, ← p, ← e, ← c) at (meet-node x some lead))
 
 -- the key of a node that was read lies in the image
 pub key-inside : (xs : List ℕ) (x : ℕ) {m : Lead} → Header xs → got m ≡ leadOf xs x → m .keyed .keyAt + m .keyed .keyLen ≤ length xs

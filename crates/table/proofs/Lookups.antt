@@ -12,7 +12,7 @@ use Rattle.rule.specs.Order.{compareKeys, isEqual}
 use Rattle.rule.specs.Entries.{valueKind}
 use Rattle.image.specs.Limits.{maxKey, maxNumber}
 use Rattle.image.specs.Readers.{Read, got, bad, bind}
-use Rattle.image.specs.Words.{part}
+use Rattle.image.specs.Entries.{keyIn}
 use Rattle.image.specs.Nodes.{count, free, slot, Node, nodeAt}
 use Rattle.image.specs.Sound.{Header, headerHolds}
 use Rattle.image.specs.Search.{toStop, Found, hit, ends, searched}
@@ -23,7 +23,7 @@ use Rattle.image.proofs.Nodes.{node-inside}
 use Rattle.image.proofs.Spots.{search-stopped, search-ended}
 use Rattle.image.proofs.Lookup.{get-tells}
 use Rattle.table.specs.Skipmap.{spotRead, searchRead}
-use Rattle.table.specs.Memtable.{InTable, lookupAs, Gets}
+use Rattle.table.specs.Memtable.{InTable, andThen, lookupAs, Gets}
 use Rattle.table.specs.declared.skipmap.Searched.{Searched}
 use Rattle.table.specs.declared.skipmap.Spot.{Spot}
 use Rattle.table.specs.declared.skipmap.Spot.the-variants.{Hit, Ends, Bad}
@@ -36,33 +36,38 @@ parts-inside xs i {n} h e = let (a, b) = node-inside xs (free xs) (slot xs i) n 
 -- ---- what a node says of a key
 
 -- by whether its key is the same, and by its type
-module _ (i looks : ℕ) where
-  pub says-other : (same : Bool) (kind : ℕ) → not same ≡ true → _≡_ {A = Answer Lookup} (given (record { says = absent; looks = looks })) (given (record { says = cond same (cond (eqb kind valueKind) (found i) deleted) absent; looks = looks }))
-  says-other same kind h = rw (not-true same h)
+module _ (same : Bool) (kind i : ℕ) where
+  -- what is said then
+  abbrev pub says : Answer Looked
+  says = given (cond same (cond (eqb kind valueKind) (found i) deleted) absent)
 
-  pub says-deleted : (same : Bool) (kind : ℕ) → not same ≡ false → (kind ≡ valueKind → ⊥) → _≡_ {A = Answer Lookup} (given (record { says = deleted; looks = looks })) (given (record { says = cond same (cond (eqb kind valueKind) (found i) deleted) absent; looks = looks }))
-  says-deleted same kind h n = rw (not-false same h, ne-eqb kind valueKind n)
+  pub says-other : not same ≡ true → given absent ≡ says
+  says-other h = rw (not-true same h)
 
-  pub says-found : (same : Bool) (kind : ℕ) → not same ≡ false → kind ≡ valueKind → _≡_ {A = Answer Lookup} (given (record { says = found i; looks = looks })) (given (record { says = cond same (cond (eqb kind valueKind) (found i) deleted) absent; looks = looks }))
-  says-found same kind h n = rw (not-false same h, eq-eqb kind valueKind n)
+  pub says-deleted : not same ≡ false → (kind ≡ valueKind → ⊥) → given deleted ≡ says
+  says-deleted h n = rw (not-false same h, ne-eqb kind valueKind n)
 
-module _ (xs k : List ℕ) (looks : ℕ) where
-  -- what is answered of what is said
-  abbrev pub answer : Looked → Answer Lookup
-  answer a = given (record { says = a; looks = looks })
+  pub says-found : not same ≡ false → kind ≡ valueKind → given (found i) ≡ says
+  says-found h n = rw (not-false same h, eq-eqb kind valueKind n)
 
-  pub said-none : (i : ℕ) → i < 1 → answer absent ≡ reading (saidAt xs k i) answer
+module _ (xs k : List ℕ) where
+  pub said-none : (i : ℕ) → i < 1 → given absent ≡ reading (saidAt xs k i) given
   said-none zero h = refl
   said-none (suc i) h = absurd (omega arith)
 
-  pub said-bad : (i : ℕ) → 1 ≤ i → {o : ℕ} → bad o ≡ nodeAt xs i → refused damaged ≡ reading (saidAt xs k i) answer
+  pub said-bad : (i : ℕ) → 1 ≤ i → {o : ℕ} → bad o ≡ nodeAt xs i → refused damaged ≡ reading (saidAt xs k i) given
   said-bad zero h e = absurd (omega arith)
   said-bad (suc i) h e = rw (← e)
 
-  pub said-node : (i : ℕ) → 1 ≤ i → {n : Node} → got n ≡ nodeAt xs i → {same : Bool} → same ≡ isEqual (compareKeys (part xs (n .parts .keyed .keyAt) (n .parts .keyed .keyAt + n .parts .keyed .keyLen - n .parts .keyed .keyAt)) k)
-      → {kind : ℕ} → kind ≡ n .parts .keyed .tagIs % 256 → {r : Answer Lookup} → r ≡ answer (cond same (cond (eqb kind valueKind) (found i) deleted) absent) → r ≡ reading (saidAt xs k i) answer
-  said-node zero h e s t f = absurd (omega arith)
-  said-node (suc i) h {n} e s t f = let z : n .parts .keyed .keyAt + n .parts .keyed .keyLen - n .parts .keyed .keyAt ≡ n .parts .keyed .keyLen = omega arith in f ∙ rw (← e, s, z, t)
+  pub said-node : (i : ℕ) → 1 ≤ i → {n : Node} → got n ≡ nodeAt xs i → {key : List ℕ} → key ≡ keyIn xs (n .parts .keyed) → {same : Bool} → same ≡ isEqual (compareKeys key k)
+      → {kind : ℕ} → kind ≡ n .parts .keyed .tagIs % 256 → {r : Answer Looked} → r ≡ says same kind i → r ≡ reading (saidAt xs k i) given
+  said-node zero h e p s t f = absurd (omega arith)
+  said-node (suc i) h e p s t f = f ∙ rw (← e, s, p, t)
+
+-- to go on with what was read
+pub read-on {ℓ κ} : {A : Type ℓ} {B : Type κ} (r : Read A) (f : A → Answer B) {m : Answer A} → m ≡ reading r given → {b : Answer B} → b ≡ andThen m f → b ≡ reading r f
+read-on (got a) f p q = q ∙ rw p
+read-on (bad o) f p q = q ∙ rw p
 
 -- ---- the tests of a lookup in their order
 
@@ -95,13 +100,17 @@ module _ (xs k : List ℕ) (s : ℕ) {b : Bool} (header : b ≡ headerHolds xs) 
         unfolding get
         get-damaged e = rw (holds, numbered, le-leb (length k) maxKey short, ← e)
 
-        pub get-hit : {x looks : ℕ} → got (hit x looks) ≡ searched xs toStop k s → {r : Answer Lookup} → r ≡ reading (saidAt xs k x) (answer xs k looks) → r ≡ get xs k s
-        unfolding get
-        get-hit e f = f ∙ rw (holds, numbered, le-leb (length k) maxKey short, ← e)
+        -- what is answered of what is said
+        abbrev answer : ℕ → Looked → Answer Lookup
+        answer looks a = given (record { says = a; looks = looks })
 
-        pub get-ends : {p x looks : ℕ} {prev : List ℕ} → got (ends p x looks prev) ≡ searched xs toStop k s → {r : Answer Lookup} → r ≡ reading (saidAt xs k x) (answer xs k looks) → r ≡ get xs k s
+        pub get-hit : {x looks : ℕ} → got (hit x looks) ≡ searched xs toStop k s → {m : Answer Looked} → m ≡ reading (saidAt xs k x) given → {r : Answer Lookup} → r ≡ andThen m (answer looks) → r ≡ get xs k s
         unfolding get
-        get-ends e f = f ∙ rw (holds, numbered, le-leb (length k) maxKey short, ← e)
+        get-hit {x} {looks} e h f = read-on (saidAt xs k x) (answer looks) h f ∙ rw (holds, numbered, le-leb (length k) maxKey short, ← e)
+
+        pub get-ends : {p x looks : ℕ} {prev : List ℕ} → got (ends p x looks prev) ≡ searched xs toStop k s → {m : Answer Looked} → m ≡ reading (saidAt xs k x) given → {r : Answer Lookup} → r ≡ andThen m (answer looks) → r ≡ get xs k s
+        unfolding get
+        get-ends {p} {x} {looks} e h f = read-on (saidAt xs k x) (answer looks) h f ∙ rw (holds, numbered, le-leb (length k) maxKey short, ← e)
 
 -- what the answer means follows from what it is
 pub gets : (xs k : List ℕ) (s : ℕ) (r : LookupAnswer) → lookupAs r ≡ get xs k s → Gets xs k s r

@@ -9,11 +9,14 @@ use Rattle.image.specs.Refusals.{Answer, refused, given}
 use Rattle.image.specs.Add.{Grown}
 use Rattle.image.specs.Lookup.{Looked, found, deleted, absent, Lookup as LookupIs, Presence as PresenceIs}
 use Rattle.image.specs.EntryMoves.{Cursor, nowhere, on, EntryMove}
+use Rattle.image.specs.Cuts.{Cut}
+use Rattle.image.specs.Newest.{NewestAt as NewestAtIs, value, deletion, nothing}
 use Rattle.table.specs.Refusals.{refusalIs}
 use Rattle.table.specs.Memtable.{freshenedAs, Freshens, addedAs, Adds, lookupAs, Gets}
 use Rattle.table.specs.Presence.{presenceAs, Contains, ShowsRow}
 use Rattle.table.specs.MemtableIter.{cursorIs, movedAs, HandsBack, Moves}
 use Rattle.table.specs.Check.{Checked}
+use Rattle.table.specs.Questions.{hitAs, Nears, newestAs, TellsNewest}
 use Rattle.table.specs.declared.refusals.Refusal.{Refusal}
 use Rattle.table.specs.declared.refusals.Refusal.the-variants.{BadImage, BadKind, BadNumber, LongKey, LongValue, BadHeight, NoRoom, Duplicate, Damaged, NoNode}
 use Rattle.table.specs.declared.memtable.Freshened.{Freshened}
@@ -28,6 +31,10 @@ use Rattle.table.specs.declared.memtable_iter.EntryCursor.{EntryCursor}
 use Rattle.table.specs.declared.memtable_iter.EntryCursor.the-variants.{Nowhere, On}
 use Rattle.table.specs.declared.memtable_iter.EntryMoved.{EntryMoved}
 use Rattle.table.specs.declared.memtable_iter.EntryMoved.the-variants.{To, Refused}
+use Rattle.table.specs.declared.questions.Hit.{Hit}
+use Rattle.table.specs.declared.questions.Hit.the-variants as hit
+use Rattle.table.specs.declared.questions.NewestAt.{NewestAt}
+use Rattle.table.specs.declared.questions.NewestAt.the-variants as newest
 
 -- what is taken back from its image is what it was
 recovered {ℓ κ} : {A : Type ℓ} {B : Type κ} (f : A → B) (back : B → A) → ((a : A) → back (f a) ≡ a) → (a b : A) → f a ≡ f b → a ≡ b
@@ -99,6 +106,18 @@ movedFrom : EntryCursor → Answer Cursor → EntryMoved
 movedFrom c (given d) = To (cursorFrom d)
 movedFrom c (refused r) = Refused (refusalFrom r) c
 
+-- the questions have one refusal, damage
+hitFrom : Answer Cursor → Hit
+hitFrom (given nowhere) = hit.Nothing
+hitFrom (given (on i)) = hit.At i
+hitFrom (refused r) = hit.Damaged
+
+newestFrom : Answer NewestAtIs → NewestAt
+newestFrom (given (value i)) = newest.Value i
+newestFrom (given (deletion i)) = newest.Deletion i
+newestFrom (given nothing) = newest.Absent
+newestFrom (refused r) = newest.Damaged
+
 -- ---- one answer
 
 pub fresh-one : (xs : List ℕ) (r q : Freshened) (ys zs : List ℕ) → Freshens xs r ys → Freshens xs q zs → (r ≡ q) × (ys ≡ zs)
@@ -149,3 +168,22 @@ check-one xs r q a b = a .exact ∙ sym (b .exact)
 
 pub value-one : (xs k : List ℕ) (s : ℕ) (v w : List ℕ) → ShowsRow xs k s v → ShowsRow xs k s w → v ≡ w
 value-one xs k s v w a b = a .exact ∙ sym (b .exact)
+
+pub near-one : (xs : List ℕ) (c : Cut) (t : List ℕ) (r q : Hit) → Nears xs c t r → Nears xs c t q → r ≡ q
+unfolding hitFrom
+near-one xs c t r q a b = recovered hitAs hitFrom back r q (a .exact ∙ sym (b .exact))
+  where
+    back : (r : Hit) → hitFrom (hitAs r) ≡ r
+    back (hit.At i) = refl
+    back hit.Nothing = refl
+    back hit.Damaged = refl
+
+pub newest-one : (xs k : List ℕ) (s : ℕ) (r q : NewestAt) → TellsNewest xs k s r → TellsNewest xs k s q → r ≡ q
+unfolding newestFrom
+newest-one xs k s r q a b = recovered newestAs newestFrom back r q (a .exact ∙ sym (b .exact))
+  where
+    back : (r : NewestAt) → newestFrom (newestAs r) ≡ r
+    back (newest.Value i) = refl
+    back (newest.Deletion i) = refl
+    back newest.Absent = refl
+    back newest.Damaged = refl

@@ -5,6 +5,7 @@ pub mod Nodes
 pub mod Skipmap
 pub mod Refusals
 pub mod Memtable
+pub mod Questions
 pub mod Check
 pub mod MemtableIter
 pub mod EntryViews

@@ -13,7 +13,7 @@ use Rattle.image.specs.Refusals.{damaged, Answer, refused, given}
 use Rattle.image.specs.Fresh.{fresh}
 use Rattle.image.specs.Add.{Grown, add, afterwards}
 use Rattle.image.specs.Sound.{Header}
-use Rattle.image.specs.Lookup.{found, deleted, absent, Lookup as LookupIs, get, Presence as PresenceIs, presence}
+use Rattle.image.specs.Lookup.{Looked, found, deleted, absent, Lookup as LookupIs, get, Presence as PresenceIs, presence}
 use Rattle.image.specs.Meaning.{Tells, IsHeld}
 use Rattle.table.specs.Refusals.{refusalIs}
 use Rattle.table.specs.declared.refusals.Refusal.{Refusal}
@@ -21,6 +21,8 @@ use Rattle.table.specs.declared.memtable.Freshened.{Freshened}
 use Rattle.table.specs.declared.memtable.Freshened.the-variants as freshened
 use Rattle.table.specs.declared.memtable.Added.{Added}
 use Rattle.table.specs.declared.memtable.Added.the-variants as added
+use Rattle.table.specs.declared.memtable.Said.{Said}
+use Rattle.table.specs.declared.memtable.Said.the-variants as said
 use Rattle.table.specs.declared.memtable.Lookup.{Lookup}
 use Rattle.table.specs.declared.memtable.Lookup.the-variants as lookup
 
@@ -64,6 +66,18 @@ pub record Adds (xs : List ℕ) (e : Entry) (height : ℕ) (r : Added) (ys : Lis
 pub record InTable (xs : List ℕ) (node : ℕ) : Type 0 where
   pub header : Header xs
   pub most : node ≤ count xs
+
+-- what node i says of a key
+abbrev pub saidAs : ℕ → Said → Answer Looked
+saidAs i said.Value = given (found i)
+saidAs i said.Deletion = given deleted
+saidAs i said.Absent = given absent
+saidAs i said.Damaged = refused damaged
+
+-- go on with an answer that is given
+abbrev pub andThen {ℓ κ} : {A : Type ℓ} {B : Type κ} → Answer A → (A → Answer B) → Answer B
+andThen (given a) f = f a
+andThen (refused r) f = refused r
 
 -- the answer
 abbrev pub lookupAs : Lookup → Answer LookupIs

@@ -21,7 +21,7 @@ pub const MAX_KEY: usize = 1024;
 pub const MAX_VALUE: usize = 4096;
 
 // How many bytes an entry takes whose key and value have these lengths.
-pub fn entry_size(key_len: usize, value_len: usize) -> usize
+pub(crate) fn entry_size(key_len: usize, value_len: usize) -> usize
     requires { ⌜ («key_len» ≤ maxKey) × («value_len» ≤ maxValue) ⌝ }
     ensures { λ r. ⌜ EntrySize «key_len» «value_len» r ⌝ }
 {
@@ -29,7 +29,7 @@ pub fn entry_size(key_len: usize, value_len: usize) -> usize
 }
 
 // Writes an entry at a place: length of key and tag, key, tag, length of value, value.
-pub fn put_entry(s: &mut [u8], at: usize, key: &[u8], number: u64, kind: u8, value: &[u8])
+pub(crate) fn put_entry(s: &mut [u8], at: usize, key: &[u8], number: u64, kind: u8, value: &[u8])
     requires { ⌜ Writable (now s) at (entry (now key) number kind (now value)) ⌝ }
     ensures { λ _. ⌜ now (s .exit) ≡ sets (now (s .entry)) at (encode (entry (now (key .entry)) number kind (now (value .entry)))) ⌝ }
 {
@@ -56,7 +56,7 @@ pub enum KeyedRead {
 }
 
 // Key and tag of the entry at o, which ends before the place end.
-pub fn keyed_at(s: &[u8], o: usize, end: usize) -> KeyedRead
+pub(crate) fn keyed_at(s: &[u8], o: usize, end: usize) -> KeyedRead
     requires { ⌜ end ≤ length (now s) ⌝ }
     ensures { λ r. ⌜ (keyedRead r ≡ keyedAt (now (s .entry)) o end) × KeyedFits end r ⌝ }
 {
@@ -87,7 +87,7 @@ pub fn keyed_at(s: &[u8], o: usize, end: usize) -> KeyedRead
 }
 
 // The key of an entry, where it stands.
-pub fn key_in(s: &[u8], k: Keyed) -> &[u8]
+pub(crate) fn key_in(s: &[u8], k: Keyed) -> &[u8]
     requires { ⌜ (k .«key_at») + (k .«key_len») ≤ length (now s) ⌝ }
     ensures { λ r. ⌜ now r ≡ keyIn (now (s .entry)) (keyedOf k) ⌝ }
 {
@@ -110,7 +110,7 @@ pub enum PartsRead {
 }
 
 // The type and the value of an entry that fills the bytes up to end, after its key and tag were read.
-pub fn rest_at(s: &[u8], end: usize, k: Keyed) -> PartsRead
+pub(crate) fn rest_at(s: &[u8], end: usize, k: Keyed) -> PartsRead
     requires { ⌜ (end ≤ length (now s)) × ((k .«key_at») + (k .«key_len») ≤ end) ⌝ }
     ensures { λ r. ⌜ (partsRead r ≡ restAt (now (s .entry)) end (keyedOf k)) × PartsFits end r ⌝ }
 {

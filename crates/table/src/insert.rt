@@ -26,7 +26,7 @@ use crate::words::put_word;
 const LINK_PLACES: [usize; 12] = [8, 12, 16, 20, 24, 28, 32, 36, 40, 44, 48, 52];
 
 // Writes the header of an empty table: its length, no node, the first free byte behind the header, twelve levels and no links.
-pub fn fresh_header(s: &mut [u8])
+pub(crate) fn fresh_header(s: &mut [u8])
     requires { ⌜ (headerSize ≤ length (now s)) × (length (now s) ≤ maxImage) ⌝ }
     ensures { λ _. ⌜ now (s .exit) ≡ freshImage (now (s .entry)) ⌝ }
 {
@@ -40,7 +40,7 @@ pub fn fresh_header(s: &mut [u8])
 }
 
 // Writes a word for each level below the height, each at its place.
-pub fn put_words(s: &mut [u8], places: &[usize; 12], values: &[usize; 12], height: usize)
+pub(crate) fn put_words(s: &mut [u8], places: &[usize; 12], values: &[usize; 12], height: usize)
     requires { ⌜ height ≤ 12 ⌝ }
     requires { ⌜ ((l : ℕ) → l < height → getD (now places) l 0 + 4 ≤ length (now s)) ⌝ }
     ensures { λ _. ⌜ now (s .exit) ≡ putWords (now (s .entry)) (λ l. getD (now (places .entry)) l 0) (λ l. getD (now (values .entry)) l 0) height ⌝ }
@@ -53,7 +53,7 @@ pub fn put_words(s: &mut [u8], places: &[usize; 12], values: &[usize; 12], heigh
 }
 
 // Writes a node to the front of the free part: height, length of its entry, links, entry.
-pub fn put_node(
+pub(crate) fn put_node(
     free: &mut [u8],
     height: usize,
     links: &[usize; 12],
@@ -80,7 +80,7 @@ pub struct Joins {
 }
 
 // The links at each level below the height of the nodes that a search recorded.
-pub fn find_joins(s: &[u8], prev: [usize; 12], height: usize) -> Joins
+pub(crate) fn find_joins(s: &[u8], prev: [usize; 12], height: usize) -> Joins
     requires { ⌜ Joinable (now s) prev height ⌝ }
     ensures { λ r. ⌜ Joined (now (s .entry)) prev height r ⌝ }
 {
@@ -102,7 +102,7 @@ pub fn find_joins(s: &[u8], prev: [usize; 12], height: usize) -> Joins
 
 // Puts an entry in behind the nodes that a search recorded: its node at the first free byte, its slot, the links to it, and
 // then the count and the first free byte. Answers the node's number.
-pub fn put_in(
+pub(crate) fn put_in(
     s: &mut [u8],
     prev: [usize; 12],
     key: &[u8],
@@ -131,7 +131,7 @@ pub fn put_in(
 }
 
 // Whether one more node of this height fits, whose key and value have these lengths.
-pub fn has_room(s: &[u8], key_len: usize, value_len: usize, height: usize) -> bool
+pub(crate) fn has_room(s: &[u8], key_len: usize, value_len: usize, height: usize) -> bool
     requires { ⌜ Sized (now s) «key_len» «value_len» height ⌝ }
     ensures { λ r. ⌜ RoomIs (now (s .entry)) «key_len» «value_len» height r ⌝ }
 {
@@ -152,7 +152,7 @@ pub enum Inserted {
 }
 
 // Looks for the entry's key and number, and where they are not there puts the entry in. An equal entry is a duplicate, room or not.
-pub fn insert(
+pub(crate) fn insert(
     s: &mut [u8],
     key: &[u8],
     number: u64,

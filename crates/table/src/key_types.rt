@@ -47,7 +47,7 @@ impl Tag {
     }
 
     // A number and a type in one word.
-    pub fn pack(number: u64, kind: u8) -> Tag
+    pub(crate) fn pack(number: u64, kind: u8) -> Tag
         requires { ⌜ number ≤ maxNumber ⌝ }
         ensures { λ r. ⌜ r .word ≡ number * 256 + kind ⌝ }
     {
@@ -72,7 +72,7 @@ impl Tag {
 }
 
 // The tag in the eight bytes from o, low byte first.
-pub fn get_tag(s: &[u8], o: usize) -> Tag
+pub(crate) fn get_tag(s: &[u8], o: usize) -> Tag
     requires { ⌜ o + 8 ≤ length (now s) ⌝ }
     ensures { λ r. ⌜ r .word ≡ fixed 8 (now (s .entry)) o ⌝ }
 {
@@ -84,7 +84,7 @@ pub fn get_tag(s: &[u8], o: usize) -> Tag
 }
 
 // Writes the eight bytes of a tag, low byte first.
-pub fn put_tag(s: &mut [u8], at: usize, t: Tag)
+pub(crate) fn put_tag(s: &mut [u8], at: usize, t: Tag)
     requires { ⌜ at + 8 ≤ length (now s) ⌝ }
     ensures { λ _. ⌜ now (s .exit) ≡ sets (now (s .entry)) at (bytes 8 (t .word)) ⌝ }
 {
@@ -101,7 +101,7 @@ pub fn len_size(len: usize) -> usize
 }
 
 // Writes a length in its shortest form; answers the place behind it.
-pub fn put_len(s: &mut [u8], at: usize, n: usize) -> usize
+pub(crate) fn put_len(s: &mut [u8], at: usize, n: usize) -> usize
     requires { ⌜ (n < 16384) × (at + length (varint n) ≤ length (now s)) ⌝ }
     ensures { λ r. ⌜ (now (s .exit) ≡ sets (now (s .entry)) at (varint n)) × (r ≡ at + length (varint n)) ⌝ }
 {
@@ -121,7 +121,7 @@ pub enum LenRead {
 }
 
 // The length that stands at o, before the place end.
-pub fn len_at(s: &[u8], end: usize, o: usize) -> LenRead
+pub(crate) fn len_at(s: &[u8], end: usize, o: usize) -> LenRead
     requires { ⌜ end ≤ length (now s) ⌝ }
     ensures { λ r. ⌜ (lenRead r ≡ lenAt (now (s .entry)) end o) × LenFits end r ⌝ }
 {

@@ -11,10 +11,11 @@ ghost use Rattle.rule.specs.Entries.{valueKind};
 ghost use Rattle.image.specs.Refusals.{given, reading};
 ghost use Rattle.image.specs.Lookup.{found, deleted, absent, saidAt};
 ghost use Rattle.table.specs.KeyTypes.{ordOf};
-ghost use Rattle.table.specs.Memtable.{Freshens, addedAs, Adds, InTable, lookupAs, Gets};
+ghost use Rattle.table.specs.Memtable.{Freshens, addedAs, Adds, InTable, saidAs, andThen, lookupAs, Gets};
 ghost use Rattle.table.specs.Insert.{insertedAs};
 use crate::entries::MAX_KEY;
 use crate::entries::MAX_VALUE;
+use crate::entries::key_in;
 use crate::insert::Inserted;
 use crate::insert::fresh_header;
 use crate::insert::insert;
@@ -119,38 +120,56 @@ fn is_equal(o: Ordering) -> bool
     }
 }
 
-// What an entry at a node says of a key, by whether its key is the same and by its type.
-fn said(same: bool, kind: u8, node: usize, looks: usize) -> Lookup
-    ensures { λ r. ⌜ lookupAs r ≡ given (record { says = cond same (cond (eqb kind valueKind) (found node) deleted) absent; looks = looks }) ⌝ }
+// What a node says of a key: a value or a deletion of it, or that there is none; or that the node is damaged.
+pub(crate) enum Said {
+    Value,
+    Deletion,
+    Absent,
+    Damaged,
+}
+
+// What an entry says of a key, by whether its key is the same and by its type.
+fn says(same: bool, kind: u8) -> Said
+    ensures { λ r. ⌜ ((node : ℕ) → saidAs node r ≡ given (cond same (cond (eqb kind valueKind) (found node) deleted) absent)) ⌝ }
 {
     if !same {
-        return Lookup::Absent { looks };
+        return Said::Absent;
     }
     if kind != Tag::VALUE {
-        return Lookup::Deleted { looks };
+        return Said::Deletion;
     }
-    Lookup::Found { node, looks }
+    Said::Value
 }
 
 // What the node says of the key at which its search stands, or none.
-fn said_at(s: &[u8], key: &[u8], node: usize, looks: usize) -> Lookup
+pub(crate) fn said_at(s: &[u8], key: &[u8], node: usize) -> Said
     requires { ⌜ InTable (now s) node ⌝ }
-    ensures { λ r. ⌜ lookupAs r ≡ reading (saidAt (now (s .entry)) (now (key .entry)) node) (λ a. given (record { says = a; looks = looks })) ⌝ }
+    ensures { λ r. ⌜ saidAs node r ≡ reading (saidAt (now (s .entry)) (now (key .entry)) node) given ⌝ }
 {
     if node < 1 {
-        return Lookup::Absent { looks };
+        return Said::Absent;
     }
     let read = node_of(s, node);
     match read {
-        NodeRead::Bad(_) => Lookup::Refused(Refusal::Damaged),
+        NodeRead::Bad(_) => Said::Damaged,
         NodeRead::Got(m) => {
             let keyed = m.parts.keyed;
-            let at = keyed.key_at;
-            let end = at + keyed.key_len;
-            let same = is_equal(compare_keys(&s[at..end], key));
+            let same = is_equal(compare_keys(key_in(s, keyed), key));
             let tag = keyed.tag;
-            said(same, tag.kind(), node, looks)
+            says(same, tag.kind())
         }
+    }
+}
+
+// The answer of a lookup: what a node says, with the node and the looks.
+fn looked(said: Said, node: usize, looks: usize) -> Lookup
+    ensures { λ r. ⌜ lookupAs r ≡ andThen (saidAs node said) (λ a. given (record { says = a; looks = looks })) ⌝ }
+{
+    match said {
+        Said::Value => Lookup::Found { node, looks },
+        Said::Deletion => Lookup::Deleted { looks },
+        Said::Absent => Lookup::Absent { looks },
+        Said::Damaged => Lookup::Refused(Refusal::Damaged),
     }
 }
 
@@ -171,11 +190,11 @@ pub fn get(s: &[u8], key: &[u8], snapshot: u64) -> Lookup
     let spot = found.spot;
     match spot {
         Spot::Bad(_) => Lookup::Refused(Refusal::Damaged),
-        Spot::Hit { node, looks } => said_at(s, key, node, looks),
+        Spot::Hit { node, looks } => looked(said_at(s, key, node), node, looks),
         Spot::Ends {
             before: _,
             after,
             looks,
-        } => said_at(s, key, after, looks),
+        } => looked(said_at(s, key, after), after, looks),
     }
 }

@@ -1,10 +1,13 @@
 // The entry cursor: over all entries of one table in their order, deletions included; and what stands at it.
 // A cursor is a node number, not a place in memory: additions never change what it shows. Nothing here writes.
 ghost use mathlib.Core.Path.{_≡_};
+ghost use Rattle.image.specs.Readers.{got, bind};
+ghost use Rattle.image.specs.Search.{standing};
 ghost use Rattle.image.specs.Refusals.{given, reading};
 ghost use Rattle.image.specs.Sound.{Header};
 ghost use Rattle.image.specs.EntryMoves.{on, cursorAt, first, seek, next, previous, follow, firstFrom, lastBefore, moved};
 ghost use Rattle.table.specs.Nodes.{Numbered, LinkInside};
+ghost use Rattle.table.specs.Skipmap.{searchRead};
 ghost use Rattle.table.specs.MemtableIter.{cursorIs, Tested, foundAs, movedAs, HandsBack, Moves};
 use crate::entries::MAX_KEY;
 use crate::entries::key_in;
@@ -16,6 +19,7 @@ use crate::nodes::lead_of;
 use crate::nodes::link_of;
 use crate::refusals::Refusal;
 use crate::skipmap::OnEqual;
+use crate::skipmap::Searched;
 use crate::skipmap::Spot;
 use crate::skipmap::search;
 
@@ -84,12 +88,10 @@ fn follow_lowest(s: &[u8], node: usize) -> EntryFound
     EntryFound::At(cursor_at(after))
 }
 
-// The first entry at or after a key and a number.
-fn at_or_after(s: &[u8], key: &[u8], number: u64) -> EntryFound
-    requires { ⌜ Header (now s) ⌝ }
-    ensures { λ r. ⌜ foundAs r ≡ reading (firstFrom (now (s .entry)) (now (key .entry)) number) given ⌝ }
+// Where a search stands.
+pub(crate) fn standing(found: Searched) -> EntryFound
+    ensures { λ r. ⌜ foundAs r ≡ reading (bind (searchRead found) (λ f. got (cursorAt (standing f)))) given ⌝ }
 {
-    let found = search(s, OnEqual::Stop, key, number);
     let spot = found.spot;
     match spot {
         Spot::Bad(_) => EntryFound::Damaged,
@@ -102,8 +104,16 @@ fn at_or_after(s: &[u8], key: &[u8], number: u64) -> EntryFound
     }
 }
 
+// The first entry at or after a key and a number.
+pub(crate) fn at_or_after(s: &[u8], key: &[u8], number: u64) -> EntryFound
+    requires { ⌜ Header (now s) ⌝ }
+    ensures { λ r. ⌜ foundAs r ≡ reading (firstFrom (now (s .entry)) (now (key .entry)) number) given ⌝ }
+{
+    standing(search(s, OnEqual::Stop, key, number))
+}
+
 // The last entry before a key and a number.
-fn last_before(s: &[u8], key: &[u8], number: u64) -> EntryFound
+pub(crate) fn last_before(s: &[u8], key: &[u8], number: u64) -> EntryFound
     requires { ⌜ Header (now s) ⌝ }
     ensures { λ r. ⌜ foundAs r ≡ reading (lastBefore (now (s .entry)) (now (key .entry)) number) given ⌝ }
 {
@@ -121,7 +131,7 @@ fn last_before(s: &[u8], key: &[u8], number: u64) -> EntryFound
 }
 
 // The first entry of all.
-fn first_entry(s: &[u8]) -> EntryFound
+pub(crate) fn first_entry(s: &[u8]) -> EntryFound
     requires { ⌜ Header (now s) ⌝ }
     ensures { λ r. ⌜ foundAs r ≡ reading (follow (now (s .entry)) 0) given ⌝ }
 {

@@ -60,7 +60,7 @@ pub fn header_holds(s: &[u8]) -> bool
 }
 
 // The node count.
-pub fn count(s: &[u8]) -> usize
+pub(crate) fn count(s: &[u8]) -> usize
     requires { ⌜ headerSize ≤ length (now s) ⌝ }
     ensures { λ r. ⌜ (r ≡ count (now (s .entry))) × (r < 4294967296) ⌝ }
 {
@@ -68,7 +68,7 @@ pub fn count(s: &[u8]) -> usize
 }
 
 // The first free byte.
-pub fn free(s: &[u8]) -> usize
+pub(crate) fn free(s: &[u8]) -> usize
     requires { ⌜ headerSize ≤ length (now s) ⌝ }
     ensures { λ r. ⌜ (r ≡ free (now (s .entry))) × (r < 4294967296) ⌝ }
 {
@@ -76,7 +76,7 @@ pub fn free(s: &[u8]) -> usize
 }
 
 // What slot i holds, the offset of node i.
-pub fn slot(s: &[u8], i: usize) -> usize
+pub(crate) fn slot(s: &[u8], i: usize) -> usize
     requires { ⌜ (1 ≤ i) × (4 * i ≤ length (now s)) ⌝ }
     ensures { λ r. ⌜ (r ≡ slot (now (s .entry)) i) × (r < 4294967296) ⌝ }
 {
@@ -98,7 +98,7 @@ pub enum LeadRead {
 }
 
 // The lead of the node that starts at o and ends at the limit or before.
-pub fn lead_at(s: &[u8], limit: usize, o: usize) -> LeadRead
+pub(crate) fn lead_at(s: &[u8], limit: usize, o: usize) -> LeadRead
     requires { ⌜ (limit ≤ length (now s)) × (o < 4294967296) ⌝ }
     ensures { λ r. ⌜ leadRead r ≡ leadAt (now (s .entry)) limit o ⌝ }
 {
@@ -147,7 +147,7 @@ pub enum NodeRead {
 }
 
 // The node that starts at o and ends at the limit or before: its lead, then its type and its value.
-pub fn node_at(s: &[u8], limit: usize, o: usize) -> NodeRead
+pub(crate) fn node_at(s: &[u8], limit: usize, o: usize) -> NodeRead
     requires { ⌜ (limit ≤ length (now s)) × (o < 4294967296) ⌝ }
     ensures { λ r. ⌜ nodeRead r ≡ bind (leadAt (now (s .entry)) limit o) (nodeFrom (now (s .entry))) ⌝ }
 {
@@ -170,7 +170,7 @@ pub fn node_at(s: &[u8], limit: usize, o: usize) -> NodeRead
 }
 
 // The lead of node i.
-pub fn lead_of(s: &[u8], i: usize) -> LeadRead
+pub(crate) fn lead_of(s: &[u8], i: usize) -> LeadRead
     requires { ⌜ Numbered (now s) i ⌝ }
     ensures { λ r. ⌜ leadRead r ≡ leadOf (now (s .entry)) i ⌝ }
 {
@@ -178,7 +178,7 @@ pub fn lead_of(s: &[u8], i: usize) -> LeadRead
 }
 
 // Node i.
-pub fn node_of(s: &[u8], i: usize) -> NodeRead
+pub(crate) fn node_of(s: &[u8], i: usize) -> NodeRead
     requires { ⌜ Numbered (now s) i ⌝ }
     ensures { λ r. ⌜ nodeRead r ≡ nodeAt (now (s .entry)) i ⌝ }
 {
@@ -186,7 +186,7 @@ pub fn node_of(s: &[u8], i: usize) -> NodeRead
 }
 
 // Where the links of node i start; node 0 is the head, whose links stand in the header.
-pub fn links_at(s: &[u8], i: usize) -> usize
+pub(crate) fn links_at(s: &[u8], i: usize) -> usize
     requires { ⌜ 4 * i ≤ length (now s) ⌝ }
     ensures { λ r. ⌜ (r ≡ linksAt (now (s .entry)) i) × (r < 4294967304) ⌝ }
 {
@@ -197,7 +197,7 @@ pub fn links_at(s: &[u8], i: usize) -> usize
 }
 
 // The link of node i, or of the head, at a level: a node number, 0 for none.
-pub fn link_of(s: &[u8], i: usize, level: usize) -> usize
+pub(crate) fn link_of(s: &[u8], i: usize, level: usize) -> usize
     requires { ⌜ LinkInside (now s) i level ⌝ }
     ensures { λ r. ⌜ (r ≡ linkOf (now (s .entry)) i level) × (r < 4294967296) ⌝ }
 {

@@ -9,6 +9,7 @@ ghost use Rattle.image.specs.Sound.{Header};
 ghost use Rattle.image.specs.Search.{turnBy, hit, ends, meet, searched};
 ghost use Rattle.table.specs.KeyTypes.{ordOf};
 ghost use Rattle.table.specs.Skipmap.{modeOf, turnRead, searchRead};
+use crate::entries::key_in;
 use crate::key_types::Ordering;
 use crate::key_types::compare_entries;
 use crate::nodes::HEAD_LINKS;
@@ -50,7 +51,7 @@ pub fn turn_by(mode: OnEqual, o: Ordering) -> TurnRead
 }
 
 // What the link at the place from says that names node x, or none; one that names a node too low for the level is bad.
-pub fn meet_at(
+pub(crate) fn meet_at(
     s: &[u8],
     mode: OnEqual,
     k: &[u8],
@@ -74,9 +75,7 @@ pub fn meet_at(
             }
             let keyed = m.keyed;
             let tag = keyed.tag;
-            let key_at = keyed.key_at;
-            let key_end = key_at + keyed.key_len;
-            let o = compare_entries(&s[key_at..key_end], tag.number(), k, number);
+            let o = compare_entries(key_in(s, keyed), tag.number(), k, number);
             turn_by(mode, o)
         }
     }
@@ -139,7 +138,7 @@ impl Searched {
 }
 
 // From the head's top level: passes a node while it is smaller, else goes down; stops on equality or below level 0.
-pub fn search(s: &[u8], mode: OnEqual, k: &[u8], number: u64) -> Searched
+pub(crate) fn search(s: &[u8], mode: OnEqual, k: &[u8], number: u64) -> Searched
     requires { ⌜ Header (now s) ⌝ }
     ensures { λ r. ⌜ searchRead r ≡ searched (now (s .entry)) (modeOf mode) (now (k .entry)) number ⌝ }
 {

@@ -20,7 +20,7 @@ pub fn wide_word(x: u32) -> usize
 }
 
 // The u32 at o, low byte first.
-pub fn get_word(s: &[u8], o: usize) -> usize
+pub(crate) fn get_word(s: &[u8], o: usize) -> usize
     requires { ⌜ o + 4 ≤ length (now s) ⌝ }
     ensures { λ r. ⌜ (r ≡ word (now (s .entry)) o) × (r < 4294967296) ⌝ }
 {
@@ -28,7 +28,7 @@ pub fn get_word(s: &[u8], o: usize) -> usize
 }
 
 // Writes the low 32 bits of v at o, low byte first.
-pub fn put_word(s: &mut [u8], o: usize, v: usize)
+pub(crate) fn put_word(s: &mut [u8], o: usize, v: usize)
     requires { ⌜ o + 4 ≤ length (now s) ⌝ }
     ensures { λ _. ⌜ now (s .exit) ≡ putWord (now (s .entry)) o v ⌝ }
 {
@@ -42,7 +42,7 @@ pub fn put_word(s: &mut [u8], o: usize, v: usize)
 }
 
 // Writes the bytes b at a place.
-pub fn put_bytes(s: &mut [u8], at: usize, b: &[u8])
+pub(crate) fn put_bytes(s: &mut [u8], at: usize, b: &[u8])
     requires { ⌜ at + length (now b) ≤ length (now s) ⌝ }
     ensures { λ _. ⌜ now (s .exit) ≡ sets (now (s .entry)) at (now (b .entry)) ⌝ }
 {

@@ -1,0 +1,70 @@
+-- What the questions of the layer above promise: `exact`, the answer on any bytes, `rule`, what it means on a sound image, and `range`, that it names a node of the table.
+use Prim.Native.Nat.{ℕ}
+use mathlib.Core.Path.{_≡_}
+use mathlib.Core.List.{List}
+use Rattle.rule.specs.Lists.{cond}
+use Rattle.image.specs.Nodes.{count}
+use Rattle.image.specs.Sound.{headerHolds, Sound}
+use Rattle.image.specs.Refusals.{damaged, Answer, refused, given}
+use Rattle.image.specs.EntryMoves.{Cursor, nowhere, on}
+use Rattle.image.specs.Meaning.{Stands}
+use Rattle.image.specs.Cuts.{Cut as CutIs, all, from, above, below, nearest, NearestIs}
+use Rattle.image.specs.Newest.{NewestAt as NewestAtIs, value, deletion, nothing, newestAt, NewestIs, NewestIn}
+use Rattle.table.specs.declared.questions.Cut.{Cut}
+use Rattle.table.specs.declared.questions.Cut.the-variants.{All, From, Above, Below}
+use Rattle.table.specs.declared.questions.Hit.{Hit}
+use Rattle.table.specs.declared.questions.Hit.the-variants as hit
+use Rattle.table.specs.declared.questions.NewestAt.{NewestAt}
+use Rattle.table.specs.declared.questions.NewestAt.the-variants as newest
+
+-- ---- what is promised of an answer
+
+-- it is given, and has P
+abbrev pub Gives {ℓ} : {A : Type ℓ} → (A → Type 0) → Answer A → Type 0
+Gives P (given a) = P a
+Gives P (refused q) = ⊥
+
+-- if it is given, it has P
+abbrev pub IfGiven {ℓ} : {A : Type ℓ} → (A → Type 0) → Answer A → Type 0
+IfGiven P (given a) = P a
+IfGiven P (refused q) = Unit
+
+-- ---- population
+
+-- how many nodes the table has, none if its header does not hold
+abbrev pub nodesOf : List ℕ → ℕ
+nodesOf xs = cond (headerHolds xs) (count xs) 0
+
+-- ---- near
+
+-- the cut
+abbrev pub cutOf : Cut → CutIs
+cutOf All = all
+cutOf From = from
+cutOf Above = above
+cutOf Below = below
+
+-- the answer
+abbrev pub hitAs : Hit → Answer Cursor
+hitAs (hit.At i) = given (on i)
+hitAs hit.Nothing = given nowhere
+hitAs hit.Damaged = refused damaged
+
+pub record Nears (xs : List ℕ) (c : CutIs) (t : List ℕ) (r : Hit) : Type 0 where
+  pub exact : hitAs r ≡ nearest xs c t
+  pub rule : Sound xs → Gives (NearestIs xs c t) (hitAs r)
+  pub range : IfGiven (Stands xs) (hitAs r)
+
+-- ---- newest
+
+-- the answer
+abbrev pub newestAs : NewestAt → Answer NewestAtIs
+newestAs (newest.Value i) = given (value i)
+newestAs (newest.Deletion i) = given (deletion i)
+newestAs newest.Absent = given nothing
+newestAs newest.Damaged = refused damaged
+
+pub record TellsNewest (xs k : List ℕ) (s : ℕ) (r : NewestAt) : Type 0 where
+  pub exact : newestAs r ≡ newestAt xs k s
+  pub rule : Sound xs → Gives (NewestIs xs k s) (newestAs r)
+  pub range : IfGiven (NewestIn xs) (newestAs r)
