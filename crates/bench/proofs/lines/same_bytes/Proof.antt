@@ -1,3 +1,4 @@
+-- `lines::same_bytes`: one byte of each a turn; the two are as long.
 use borrow.Author.Needs.{needs}
 use mathlib.Core.Path.{_≡_}
 use Prim.Native.Nat.{_≤_, _-_}

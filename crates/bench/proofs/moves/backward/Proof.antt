@@ -1,3 +1,4 @@
+-- `moves::backward`: one move a turn, down to the first entry.
 use borrow.Author.Needs.{needs}
 use Prim.Native.Nat.{_≤_}
 use Rattle.bench.proofs.moves.backward.Statement.{statement}

@@ -1,3 +1,4 @@
+-- `moves::forward`: one move a turn.
 use borrow.Author.Needs.{needs}
 use Prim.Native.Nat.{_≤_, _-_}
 use Rattle.bench.proofs.moves.forward.Statement.{statement}

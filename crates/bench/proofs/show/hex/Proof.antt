@@ -1,3 +1,4 @@
+-- `show::hex`: one byte a turn.
 use borrow.Author.Needs.{needs}
 use Prim.Native.Nat.{_≤_, _-_}
 use lib.ListN.{length}

@@ -1,3 +1,4 @@
+-- `whole::fill`: at most 26 turns, a letter each.
 use borrow.Author.Needs.{needs}
 use mathlib.Core.Path.{_≡_}
 use Prim.Native.Nat.{_≤_, _-_}
