@@ -78,23 +78,19 @@ past-past from = refl
 past-past above = refl
 past-past below = refl
 
--- of the keys behind a cut that have a row, the one that comes first
-abbrev pub bestBehind : Cut → List ℕ → ℕ → List Entry → Maybe (List ℕ)
-bestBehind c t s es = best (λ a b. isLess (cmpOf c a b)) (admits c t) s es es
-
 -- each move's target is the best behind a cut
 module _ (s : ℕ) (es : List Entry) where
-  pub first-behind : (t : List ℕ) (k : Maybe (List ℕ)) → target first s k es ≡ bestBehind all t s es
+  pub first-behind : (t : List ℕ) (k : Maybe (List ℕ)) → target first s k es ≡ best (λ a b. isLess (cmpOf all a b)) (admits all t) s es es
   first-behind t k = refl
 
-  pub seek-behind : (t : List ℕ) (k : Maybe (List ℕ)) → target (seek t) s k es ≡ bestBehind from t s es
+  pub seek-behind : (t : List ℕ) (k : Maybe (List ℕ)) → target (seek t) s k es ≡ best (λ a b. isLess (cmpOf from a b)) (admits from t) s es es
   seek-behind t k = refl
 
-  pub next-behind : (k : List ℕ) → target next s (some k) es ≡ bestBehind above k s es
+  pub next-behind : (k : List ℕ) → target next s (some k) es ≡ best (λ a b. isLess (cmpOf above a b)) (admits above k) s es es
   next-behind k = refl
 
-  pub next-nowhere : (t : List ℕ) → target next s none es ≡ bestBehind all t s es
+  pub next-nowhere : (t : List ℕ) → target next s none es ≡ best (λ a b. isLess (cmpOf all a b)) (admits all t) s es es
   next-nowhere t = refl
 
-  pub previous-behind : (k : List ℕ) → target previous s (some k) es ≡ bestBehind below k s es
+  pub previous-behind : (k : List ℕ) → target previous s (some k) es ≡ best (λ a b. isLess (cmpOf below a b)) (admits below k) s es es
   previous-behind k = refl

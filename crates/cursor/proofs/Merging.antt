@@ -60,7 +60,7 @@ module _ (f g : List ℕ) (p : Place) where
 
 -- on sound tables it is the entry
 module _ (f g : List ℕ) (x : Sound f) (y : Sound g) where
-  sound-of : (side : Side) → Sound (imageOf side f g)
+  pub sound-of : (side : Side) → Sound (imageOf side f g)
   sound-of First = x
   sound-of Second = y
 

@@ -1,10 +1,12 @@
 -- Places in two tables, and what stands there.
 use Prim.Native.Nat.{ℕ}
+use mathlib.Core.Path.{_≡_}
 use mathlib.Core.List.{List, [], _++_}
+use mathlib.Core.Bool.{Bool, true}
 use Rattle.rule.specs.Entries.{Entry}
 use Rattle.image.specs.Nodes.{entryOf}
-use Rattle.image.specs.Sound.{held}
-use Rattle.image.specs.EntryMoves.{on, viewed, keyView, numberView}
+use Rattle.image.specs.Sound.{headerHolds, held}
+use Rattle.image.specs.EntryMoves.{on, inTable, viewed, keyView, numberView, viewRefusal}
 use Rattle.image.specs.Meaning.{IsNode}
 use Rattle.table.specs.EntryViews.{shownNumber}
 use Rattle.cursor.specs.declared.places.Side.{Side}
@@ -51,3 +53,17 @@ PlaceIn f g p = IsNode (imageOf (p .table) f g) (p .node)
 abbrev pub CursorIn : List ℕ → List ℕ → Cursor → Type 0
 CursorIn f g Nowhere = Unit
 CursorIn f g (On p) = PlaceIn f g p
+
+-- the headers of both tables hold
+pub record HeadersHold (f g : List ℕ) : Type 0 where
+  pub first : headerHolds f ≡ true
+  pub second : headerHolds g ≡ true
+
+-- the refusal that the views get at a place, or 0
+abbrev pub refusalAt : List ℕ → List ℕ → Place → ℕ
+refusalAt f g p = viewRefusal (imageOf (p .table) f g) (on (p .node))
+
+-- the cursor names a node of its table, or none
+abbrev pub inside : List ℕ → List ℕ → Cursor → Bool
+inside f g Nowhere = true
+inside f g (On p) = inTable (imageOf (p .table) f g) (on (p .node))
