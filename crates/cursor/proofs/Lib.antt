@@ -1,0 +1,4 @@
+pub mod Laws
+pub mod Merging
+pub mod Walks
+pub mod Moves

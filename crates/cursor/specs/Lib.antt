@@ -1,0 +1,4 @@
+pub mod Places
+pub mod Merging
+pub mod Walks
+pub mod Moves
