@@ -15,14 +15,13 @@ use Rattle.rule.specs.Rows.{newest, shown, row}
 use Rattle.rule.specs.Moves.{best}
 use Rattle.rule.specs.Nearest.{HasKey, Least, remaining}
 use Rattle.rule.proofs.Nearest.{best-end, best-done, best-past, remaining-length, remaining-mono, remaining-less}
-use Rattle.image.specs.Limits.{headerSize}
-use Rattle.image.specs.Nodes.{count}
-use Rattle.image.specs.Sound.{Sound, held, headerHolds}
+use Rattle.image.specs.Sound.{Sound, held}
 use Rattle.image.specs.Cuts.{Cut, cmpOf, admits, pastOf}
 use Rattle.image.proofs.Nearest.{way, onward, past-way, past-admits}
-use Rattle.image.proofs.Sound.{header-sound}
+use Rattle.table.specs.Questions.{nodesOf}
+use Rattle.table.proofs.Asking.{nodes-sound}
 use Rattle.cursor.proofs.Laws.{held-length, past-past}
-use Rattle.cursor.specs.Places.{all, entryAt, keyAt, HeadersHold}
+use Rattle.cursor.specs.Places.{all, entryAt, keyAt}
 use Rattle.cursor.specs.Merging.{MetIn, NearestIs, NewestIs, kindOf}
 use Rattle.cursor.specs.Walks.{Gives, StepRule, Stepped, cutFrom, keyFrom, tickOf, spentOf, bestOf, Ends, Walked}
 use Rattle.cursor.specs.declared.places.Place.{Place}
@@ -146,18 +145,12 @@ past-from c Start = refl
 past-from c (Past p) = past-past c
 
 -- a header that holds has its length
-pub long-first : (f g : List ℕ) → HeadersHold f g → headerSize ≤ length f
-long-first f g h = header-sound f (h .first) .long
-
-pub long-second : (f g : List ℕ) → HeadersHold f g → headerSize ≤ length g
-long-second f g h = header-sound g (h .second) .long
-
 module _ (f g : List ℕ) (s : ℕ) (c : Cut) (t : List ℕ) where
-  pub kept-start : {i j : ℕ} → i ≡ count f → j ≡ count g → Kept f g s c t Start (record { first = i; second = j })
+  pub kept-start : {i j : ℕ} → i ≡ nodesOf f → j ≡ nodesOf g → Kept f g s c t Start (record { first = i; second = j })
   kept-start a b = record {
     same = λ x y. refl;
-    first = λ x y. omega (arith, remaining-length (admits c t) (held f), held-length f);
-    second = λ x y. omega (arith, remaining-length (admits c t) (held g), held-length g);
+    first = λ x y. omega (arith, remaining-length (admits c t) (held f), held-length f, nodes-sound f x);
+    second = λ x y. omega (arith, remaining-length (admits c t) (held g), held-length g, nodes-sound g y);
   }
 
   module _ {at : Reached} {left : Left} (k : Kept f g s c t at left) where

@@ -104,7 +104,6 @@ fn go<'a>(
     key: &[u8],
     at: Cursor,
 ) -> Moved
-    requires { ⌜ HeadersHold (now first) (now second) ⌝ }
     ensures { λ r. ⌜ Went (now (first .entry)) (now (second .entry)) snapshot (cutOf cut) (now (key .entry)) at r ⌝ }
 {
     end_on(walk(first, second, snapshot, cut, key), at)
@@ -131,7 +130,6 @@ fn go_from<'a>(
     p: Place,
     at: Cursor,
 ) -> Moved
-    requires { ⌜ HeadersHold (now first) (now second) ⌝ }
     ensures { λ r. ⌜ WentFrom (now (first .entry)) (now (second .entry)) snapshot (cutOf cut) p at r ⌝ }
 {
     if place_refusal(first, second, p) != 0 {

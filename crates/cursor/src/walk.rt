@@ -2,7 +2,6 @@
 // each table, the nodes of it that it meets, and gives damage past the table's count; on sound tables it never does.
 ghost use mathlib.Core.Path.{_≡_};
 ghost use Rattle.table.specs.Questions.{cutOf};
-ghost use Rattle.cursor.specs.Places.{HeadersHold};
 ghost use Rattle.cursor.specs.Walks.{Stepped, cutFrom, keyFrom, tickOf, spentOf, Walked};
 use crate::merging_iter::Meeting;
 use crate::merging_iter::Nearest;
@@ -11,9 +10,9 @@ use crate::merging_iter::nearest_key;
 use crate::merging_iter::newest_entry;
 use crate::places::Place;
 use crate::places::key_at;
-use table::nodes::count;
 use table::questions::Cut;
 use table::questions::past;
+use table::questions::population;
 
 // A turn of a walk: it ends on a row, passes a key that has none, or finds no more keys.
 pub enum Step {
@@ -128,11 +127,10 @@ pub(crate) fn walk<'a>(
     cut: Cut,
     key: &[u8],
 ) -> Found
-    requires { ⌜ HeadersHold (now first) (now second) ⌝ }
     ensures { λ r. ⌜ Walked (now (first .entry)) (now (second .entry)) snapshot (cutOf cut) (now (key .entry)) r ⌝ }
 {
-    let n = count(first);
-    let m = count(second);
+    let n = population(first);
+    let m = population(second);
     let mut left = Left {
         first: n,
         second: m,

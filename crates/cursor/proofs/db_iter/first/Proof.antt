@@ -1,4 +1,4 @@
-use Rattle.cursor.proofs.Moves.{passed-headers, move-refused, move-first}
+use Rattle.cursor.proofs.Moves.{move-refused, move-first}
 use Rattle.rule.specs.Moves as rule
 use borrow.Author.Needs.{needs}
 use Rattle.cursor.proofs.db_iter.first.Statement.{statement}
@@ -30,7 +30,7 @@ slice-aggregate-go c = search needs
 
 -- src/db_iter.rt:155:29
 go-requires : tie.Need-go-requires
-go-requires c κs = let a = c .before .before .before .before .before .before .before .args in passed-headers rule.first (a .first .now) (a .second .now) (a .snapshot) (a .at) (c .before .before .before .test-move .ensures) (c .before .enum-told .given .1)
+go-requires c κs = search needs
 
 -- src/db_iter.rt:150:1
 returns : tie.Need-returns

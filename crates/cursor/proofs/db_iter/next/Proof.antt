@@ -1,4 +1,4 @@
-use Rattle.cursor.proofs.Moves.{passed-headers, move-refused, move-next-nowhere, move-next}
+use Rattle.cursor.proofs.Moves.{move-refused, move-next-nowhere, move-next}
 use Rattle.rule.specs.Moves as rule
 use borrow.Author.Needs.{needs}
 use Rattle.cursor.proofs.db_iter.next.Statement.{statement}
@@ -35,7 +35,7 @@ slice-aggregate-go c = search needs
 
 -- src/db_iter.rt:182:32
 go-requires : tie.Need-go-requires
-go-requires c κs = let a = c .before .before .before .before .before .before .before .before .before .args in passed-headers rule.next (a .first .now) (a .second .now) (a .snapshot) (a .at) (c .before .before .before .before .before .test-move .ensures) (c .before .before .before .enum-told .given .1)
+go-requires c κs = search needs
 
 -- src/db_iter.rt:183:24
 enum-known-at : tie.Need-enum-known-at
@@ -43,7 +43,7 @@ enum-known-at c = search needs
 
 -- src/db_iter.rt:183:30
 go-from-requires : tie.Need-go-from-requires
-go-from-requires c κs = let a = c .before .before .before .before .before .before .before .before .before .args in passed-headers rule.next (a .first .now) (a .second .now) (a .snapshot) (a .at) (c .before .before .before .before .before .test-move .ensures) (c .before .before .before .enum-told .given .1)
+go-from-requires c κs = search needs
 
 -- src/db_iter.rt:176:1
 returns : tie.Need-returns

@@ -1,4 +1,4 @@
-use Rattle.cursor.proofs.Moves.{passed-headers, move-refused, move-prev-nowhere, move-prev}
+use Rattle.cursor.proofs.Moves.{move-refused, move-prev-nowhere, move-prev}
 use Rattle.rule.specs.Moves as rule
 use borrow.Author.Needs.{needs}
 use Rattle.cursor.proofs.db_iter.prev.Statement.{statement}
@@ -34,7 +34,7 @@ enum-known-at c = search needs
 
 -- src/db_iter.rt:196:30
 go-from-requires : tie.Need-go-from-requires
-go-from-requires c κs = let a = c .before .before .before .before .before .before .before .before .before .args in passed-headers rule.previous (a .first .now) (a .second .now) (a .snapshot) (a .at) (c .before .before .before .before .before .test-move .ensures) (c .before .before .before .enum-told .given .1)
+go-from-requires c κs = search needs
 
 -- src/db_iter.rt:189:1
 returns : tie.Need-returns

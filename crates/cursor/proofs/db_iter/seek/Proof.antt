@@ -1,4 +1,4 @@
-use Rattle.cursor.proofs.Moves.{passed-headers, move-refused, move-seek}
+use Rattle.cursor.proofs.Moves.{move-refused, move-seek}
 use Rattle.rule.specs.Moves as rule
 use borrow.Author.Needs.{needs}
 use Rattle.cursor.proofs.db_iter.seek.Statement.{statement}
@@ -22,7 +22,7 @@ enum-told c = search needs
 
 -- src/db_iter.rt:171:29
 go-requires : tie.Need-go-requires
-go-requires c κs = let a = c .before .before .before .before .before .before .args in passed-headers (rule.seek (a .key .now)) (a .first .now) (a .second .now) (a .snapshot) (a .at) (c .before .before .test-move .ensures) (c .enum-told .given .1)
+go-requires c κs = search needs
 
 -- src/db_iter.rt:160:1
 returns : tie.Need-returns

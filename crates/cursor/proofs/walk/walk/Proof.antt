@@ -1,4 +1,4 @@
-use Rattle.cursor.proofs.Walks.{Kept, long-first, long-second, kept-start, kept-damaged, kept-end, kept-done, kept-over, kept-on}
+use Rattle.cursor.proofs.Walks.{Kept, kept-start, kept-damaged, kept-end, kept-done, kept-over, kept-on}
 use mathlib.Core.Path.{sym, _∙_}
 use Prim.Native.Nat.{_+_}
 use borrow.Author.Needs.{needs}
@@ -9,7 +9,7 @@ use Rattle.cursor.proofs.walk.walk.Reads as reads
 use Rattle.cursor.proofs.walk.walk.Lts as lts
 use Rattle.cursor.proofs.walk.spend.Reads as spend-reads
 use Rattle.cursor.proofs.walk.take_turn.Reads as take-turn-reads
-use Rattle.table.proofs.nodes.count.Reads as count-reads
+use Rattle.table.proofs.questions.population.Reads as population-reads
 
 abbrev Inv-loop : tie.InvT-loop
 Inv-loop first second snapshot cut key n m left₀ reached₀ left reached = Kept first second snapshot (cutOf cut) key reached left
@@ -18,16 +18,16 @@ abbrev μ-loop : tie.MeasureT-loop
 μ-loop first second snapshot cut key n m left₀ reached₀ left reached = left .first + left .second
 
 -- src/walk.rt:140:9
-count-requires : tie.Need-count-requires Inv-loop μ-loop
-count-requires c κs = let d = c .before .before .before in let a = d .args in long-first (a .first .now) (a .second .now) (d .pre)
+population-requires : tie.Need-population-requires Inv-loop μ-loop
+population-requires c κs = search needs
 
 -- src/walk.rt:141:9
-count-requires-2 : tie.Need-count-requires-2 Inv-loop μ-loop
-count-requires-2 c κs = let d = c .before .before .before .before in let a = d .args in long-second (a .first .now) (a .second .now) (d .pre)
+population-requires-2 : tie.Need-population-requires-2 Inv-loop μ-loop
+population-requires-2 c κs = search needs
 
 -- src/walk.rt:147:5
 loop-holds : tie.Need-loop-holds Inv-loop μ-loop
-loop-holds c = let a = c .before .before .before .before .before .args in kept-start (a .first .now) (a .second .now) (a .snapshot) (cutOf (a .cut)) (a .key .now) (c .before .count .ensures .0) (c .count2 .ensures .0)
+loop-holds c = let a = c .before .before .before .before .before .args in kept-start (a .first .now) (a .second .now) (a .snapshot) (cutOf (a .cut)) (a .key .now) (c .before .population .ensures) (c .population2 .ensures)
 
 -- src/walk.rt:148:15
 take-turn-requires : tie.Need-take-turn-requires Inv-loop μ-loop
@@ -91,8 +91,8 @@ walk-spec =
     (tie.spec
     Inv-loop
     μ-loop
-    count-requires
-    count-requires-2
+    population-requires
+    population-requires-2
     loop-holds
     take-turn-requires
     enum-told
