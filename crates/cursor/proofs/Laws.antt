@@ -15,17 +15,25 @@ use Rattle.rule.specs.Entries.{Entry, order}
 use Rattle.rule.specs.Moves.{Move, first, seek, next, previous, target, best}
 use Rattle.rule.proofs.Lists.{both-true}
 use Rattle.rule.proofs.Order.{entries-less-number}
-use Rattle.image.specs.Limits.{levels}
+use Rattle.image.specs.Limits.{levels, maxNodes, maxNumber, maxKey}
 use Rattle.image.specs.Nodes.{count, entryOf}
-use Rattle.image.specs.Sound.{Sound, held, heldUpTo}
-use Rattle.image.specs.Refusals.{Answer, refused, given}
+use Rattle.image.specs.Sound.{Sound, headerHolds, held, heldUpTo}
+use Rattle.image.specs.Search.{toStop, searched, standing, looksOf}
+use Rattle.image.specs.Lookup.{Lookup, saidAt, get}
+use Rattle.image.specs.Refusals.{Answer, refused, given, badImage, badNumber, longKey}
 use Rattle.image.specs.EntryMoves.{on, inTable, numberView}
 use Rattle.image.specs.Meaning.{IsNode}
 use Rattle.image.specs.Cuts.{Cut, all, from, above, below, cmpOf, admits, pastOf}
-use Rattle.image.proofs.Sound.{everywhere}
+use Rattle.image.proofs.Refusals.{demand-given, reading-given}
+use Rattle.image.proofs.Search.{searched-looks}
+use Rattle.image.proofs.Sound.{header-sound, everywhere}
 use Rattle.image.proofs.Held.{held-has}
 use Rattle.image.proofs.Views.{number-shown}
+use Rattle.image.specs.Refusals as is
+use Rattle.table.specs.Refusals.{refusalIs}
 use Rattle.table.specs.EntryViews.{shownNumber}
+use Rattle.table.specs.declared.refusals.Refusal.{Refusal}
+use Rattle.table.specs.declared.refusals.Refusal.the-variants as refusal
 
 -- ---- the nodes of a table
 
@@ -94,3 +102,48 @@ module _ (s : ℕ) (es : List Entry) where
 
   pub previous-behind : (k : List ℕ) → target previous s (some k) es ≡ best (λ a b. isLess (cmpOf below a b)) (admits below k) s es es
   previous-behind k = refl
+
+-- ---- lookups
+
+-- on any bytes a lookup takes few looks
+pub get-looks : (xs k : List ℕ) (s : ℕ) (a : Lookup) → get xs k s ≡ given a → a .looks ≤ maxNodes + levels
+unfolding get
+get-looks xs k s a e =
+    let (h, p) = demand-given (headerHolds xs) badImage _ a e in
+    let (_, q) = demand-given (leb s maxNumber) badNumber _ a p in
+    let (_, r) = demand-given (leb (length k) maxKey) longKey _ a q in
+    let (f, i, t) = reading-given (searched xs toStop k s) _ a r in
+    let (b, _, u) = reading-given (saidAt xs k (standing f)) _ a t in
+    let z : looksOf f ≡ a .looks = same u in
+    omega (arith, z, searched-looks xs toStop k s f i, header-sound xs h .few)
+  where
+    same : {c d : Lookup} → _≡_ {A = Answer Lookup} (given c) (given d) → c .looks ≡ d .looks
+    same e = let z : _ ≡ _ = e in cc
+
+-- ---- refusals
+
+-- from a refusal of the definitions back to that of the code
+unfoldable pub refusalFrom : is.Refusal → Refusal
+refusalFrom is.badImage = refusal.BadImage
+refusalFrom is.badKind = refusal.BadKind
+refusalFrom is.badNumber = refusal.BadNumber
+refusalFrom is.longKey = refusal.LongKey
+refusalFrom is.longValue = refusal.LongValue
+refusalFrom is.badHeight = refusal.BadHeight
+refusalFrom is.noRoom = refusal.NoRoom
+refusalFrom is.duplicate = refusal.Duplicate
+refusalFrom is.damaged = refusal.Damaged
+refusalFrom is.noNode = refusal.NoNode
+
+pub refusal-back : (q : Refusal) → refusalFrom (refusalIs q) ≡ q
+unfolding refusalFrom
+refusal-back refusal.BadImage = refl
+refusal-back refusal.BadKind = refl
+refusal-back refusal.BadNumber = refl
+refusal-back refusal.LongKey = refl
+refusal-back refusal.LongValue = refl
+refusal-back refusal.BadHeight = refl
+refusal-back refusal.NoRoom = refl
+refusal-back refusal.Duplicate = refl
+refusal-back refusal.Damaged = refl
+refusal-back refusal.NoNode = refl

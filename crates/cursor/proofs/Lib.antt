@@ -2,3 +2,6 @@ pub mod Laws
 pub mod Merging
 pub mod Walks
 pub mod Moves
+pub mod Rows
+pub mod Pairs
+pub mod Unique

@@ -2,3 +2,5 @@ pub mod Places
 pub mod Merging
 pub mod Walks
 pub mod Moves
+pub mod Rows
+pub mod Pairs

@@ -6,7 +6,7 @@ use mathlib.Core.Bool.{Bool, true}
 use Rattle.rule.specs.Entries.{Entry}
 use Rattle.image.specs.Nodes.{entryOf}
 use Rattle.image.specs.Sound.{headerHolds, held}
-use Rattle.image.specs.EntryMoves.{on, inTable, viewed, keyView, numberView, viewRefusal}
+use Rattle.image.specs.EntryMoves.{on, inTable, viewed, keyView, valueView, numberView, viewRefusal}
 use Rattle.image.specs.Meaning.{IsNode}
 use Rattle.table.specs.EntryViews.{shownNumber}
 use Rattle.cursor.specs.declared.places.Side.{Side}
@@ -40,6 +40,10 @@ entryAt f g p = entryOf (imageOf (p .table) f g) (p .node)
 -- the key at a place as its table shows it; on a sound table that is the key of the entry
 abbrev pub keyAt : List ℕ → List ℕ → Place → List ℕ
 keyAt f g p = viewed (imageOf (p .table) f g) (keyView (imageOf (p .table) f g) (on (p .node)))
+
+-- the value at a place as its table shows it; a deletion's is empty
+abbrev pub valueAt : List ℕ → List ℕ → Place → List ℕ
+valueAt f g p = viewed (imageOf (p .table) f g) (valueView (imageOf (p .table) f g) (on (p .node)))
 
 -- the number at a place as its table shows it
 abbrev pub numberAt : List ℕ → List ℕ → Place → ℕ

@@ -3,17 +3,23 @@
 ghost use mathlib.Core.Path.{_≡_};
 ghost use Rattle.table.specs.Questions.{cutOf};
 ghost use Rattle.cursor.specs.Places.{keyAt, numberAt};
+ghost use Rattle.table.specs.Memtable.{lookupAs};
+ghost use Rattle.cursor.specs.Pairs.{answersOf, looksTaken, FewLooks, toldBy, pairAs, GetsPair};
 ghost use Rattle.cursor.specs.Merging.{metAt, metIn, nearerOf, soonerOf, NearestIs, versionIn, newerOf, NewestIs};
 use crate::places::Place;
 use crate::places::Side;
 use crate::places::key_at;
 use crate::places::number_at;
+use table::memtable::Lookup;
+use table::memtable::get;
+use table::nodes::header_holds;
 use table::questions::Cut;
 use table::questions::Hit;
 use table::questions::NewestAt;
 use table::questions::before;
 use table::questions::near;
 use table::questions::newest;
+use table::refusals::Refusal;
 
 // A key that comes next: a place that has it, and which of the tables it is the nearest key of.
 pub struct Meeting {
@@ -166,4 +172,72 @@ pub fn newest_entry(first: &[u8], second: &[u8], key: &[u8], snapshot: u64) -> N
     let a = version_in(Side::First, newest(first, key, snapshot));
     let b = version_in(Side::Second, newest(second, key, snapshot));
     newer(first, second, a, b)
+}
+
+// What a lookup in a pair answers, with the looks that it took over the tables asked.
+pub enum PairLookup {
+    Found { place: Place, looks: usize },
+    Deleted { looks: usize },
+    Absent { looks: usize },
+    Refused(Refusal),
+}
+
+// Whether the first table answers: it does unless it says absent.
+fn answers(a: Lookup) -> bool
+    ensures { λ r. ⌜ r ≡ answersOf (lookupAs a) ⌝ }
+{
+    match a {
+        Lookup::Found { node: _, looks: _ } => true,
+        Lookup::Deleted { looks: _ } => true,
+        Lookup::Absent { looks: _ } => false,
+        Lookup::Refused(_) => true,
+    }
+}
+
+// The looks of a lookup; of a refused one none.
+fn looks_of(a: Lookup) -> usize
+    ensures { λ r. ⌜ r ≡ looksTaken (lookupAs a) ⌝ }
+{
+    match a {
+        Lookup::Found { node: _, looks } => looks,
+        Lookup::Deleted { looks } => looks,
+        Lookup::Absent { looks } => looks,
+        Lookup::Refused(_) => 0,
+    }
+}
+
+// One table's answer, with the looks that were taken before it.
+fn told_by(side: Side, before: usize, a: Lookup) -> PairLookup
+    requires { ⌜ FewLooks before (lookupAs a) ⌝ }
+    ensures { λ r. ⌜ pairAs r ≡ toldBy side before (lookupAs a) ⌝ }
+{
+    let looks = before + looks_of(a);
+    match a {
+        Lookup::Found { node, looks: _ } => PairLookup::Found {
+            place: Place { table: side, node },
+            looks,
+        },
+        Lookup::Deleted { looks: _ } => PairLookup::Deleted { looks },
+        Lookup::Absent { looks: _ } => PairLookup::Absent { looks },
+        Lookup::Refused(q) => PairLookup::Refused(q),
+    }
+}
+
+// The newest entry of a key up to a snapshot in a pair: the first table is asked, the second only if the first says absent.
+// Refusals 1 (first table, then second), 3, 4, 9.
+pub fn get_pair(first: &[u8], second: &[u8], key: &[u8], snapshot: u64) -> PairLookup
+    ensures { λ r. ⌜ GetsPair (now (first .entry)) (now (second .entry)) (now (key .entry)) snapshot r ⌝ }
+{
+    if !header_holds(first) {
+        return PairLookup::Refused(Refusal::BadImage);
+    }
+    if !header_holds(second) {
+        return PairLookup::Refused(Refusal::BadImage);
+    }
+    let a = get(first, key, snapshot);
+    if answers(a) {
+        return told_by(Side::First, 0, a);
+    }
+    let looks = looks_of(a);
+    told_by(Side::Second, looks, get(second, key, snapshot))
 }
