@@ -1,0 +1,149 @@
+-- What the layers above use of a table, as laws over its definitions.
+use Prim.Native.Nat.{ℕ, zero, suc, _+_, _≤_}
+use native.Mathlib.Omega.{arith}
+use native.Mathlib.Nat.{le-refl}
+use mathlib.Core.Path.{_≡_, refl, sym, ap, _∙_}
+use mathlib.Core.Logic.{_⊎_, inl, inr, ⊎-elim}
+use mathlib.Core.List.{List, [], _∷_, _++_, List·Memᴰ, List·Memᴰ·not-nil, List·Memᴰ·cases-cons}
+use mathlib.Core.Bool.{Bool, true, false, not}
+use lib.ListN.{length, length-append}
+use lib.Dec.{leb}
+use borrow.Author.Tests.{leb-true}
+use Rattle.rule.specs.Lists.{both, Maybe, none, some, Pairwise}
+use Rattle.rule.specs.Order.{less, isLess}
+use Rattle.rule.specs.Entries.{Entry, order}
+use Rattle.rule.specs.Moves.{Move, first, seek, next, previous, target, best}
+use Rattle.rule.proofs.Lists.{both-true}
+use Rattle.rule.proofs.Order.{entries-less-number}
+use Rattle.image.specs.Limits.{levels, maxNodes, maxNumber, maxKey}
+use Rattle.image.specs.Nodes.{count, entryOf}
+use Rattle.image.specs.Sound.{Sound, headerHolds, held, heldUpTo}
+use Rattle.image.specs.Search.{toStop, searched, standing, looksOf}
+use Rattle.image.specs.Lookup.{Lookup, saidAt, get}
+use Rattle.image.specs.Refusals.{Answer, refused, given, badImage, badNumber, longKey}
+use Rattle.image.specs.EntryMoves.{on, inTable, numberView}
+use Rattle.image.specs.Meaning.{IsNode}
+use Rattle.image.specs.Cuts.{Cut, all, from, above, below, cmpOf, admits, pastOf}
+use Rattle.image.proofs.Refusals.{demand-given, reading-given}
+use Rattle.image.proofs.Search.{searched-looks}
+use Rattle.image.proofs.Sound.{header-sound, everywhere}
+use Rattle.image.proofs.Held.{held-has}
+use Rattle.image.proofs.Views.{number-shown}
+use Rattle.image.specs.Refusals as is
+use Rattle.table.specs.Refusals.{refusalIs}
+use Rattle.table.specs.EntryViews.{shownNumber}
+use Rattle.table.specs.declared.refusals.Refusal.{Refusal}
+use Rattle.table.specs.declared.refusals.Refusal.the-variants as refusal
+
+-- ---- the nodes of a table
+
+-- a node that is tested to be in the table
+pub in-table : (xs : List ℕ) (i : ℕ) → inTable xs (on i) ≡ true → IsNode xs i
+in-table xs i h = let (a, b) = both-true (leb 1 i) (leb i (count xs)) h in record { some = leb-true 1 i a; most = leb-true i (count xs) b }
+
+-- its entry is held
+pub node-held : (xs : List ℕ) (i : ℕ) → IsNode xs i → List·Memᴰ (entryOf xs i) (held xs)
+node-held xs i n = held-has xs (count xs) i (n .some) (n .most)
+
+-- as many entries are held as there are nodes
+pub held-length : (xs : List ℕ) → length (held xs) ≡ count xs
+held-length xs = go (count xs)
+  where
+    go : (n : ℕ) → length (heldUpTo xs n) ≡ n
+    go zero = refl
+    go (suc n) = length-append (heldUpTo xs n) (entryOf xs (suc n) ∷ []) ∙ (let e = go n in omega (arith, e))
+
+-- members of a list between whose members R holds
+between {ℓ κ} : {A : Type ℓ} (R : A → A → Type κ) (xs : List A) → Pairwise R xs → (x y : A) → List·Memᴰ x xs → List·Memᴰ y xs → (x ≡ y) ⊎ (R x y ⊎ R y x)
+between R [] p x y m n = absurd (List·Memᴰ·not-nil m)
+between {A = A} R (z ∷ zs) (h, p) x y m n = go (List·Memᴰ·cases-cons m) (List·Memᴰ·cases-cons n) (between R zs p x y)
+  where
+    go : (x ≡ z) ⊎ List·Memᴰ x zs → (y ≡ z) ⊎ List·Memᴰ y zs → (List·Memᴰ x zs → List·Memᴰ y zs → (x ≡ y) ⊎ (R x y ⊎ R y x)) → (x ≡ y) ⊎ (R x y ⊎ R y x)
+    go (inl a) (inl b) ih = inl (a ∙ sym b)
+    go (inl a) (inr n) ih = inr (inl (rw a (h y n)))
+    go (inr m) (inl b) ih = inr (inr (rw b (h x m)))
+    go (inr m) (inr n) ih = ih m n
+
+-- on a sound image a node is known by its key and number
+pub node-single : (xs : List ℕ) → Sound xs → (i j : ℕ) → IsNode xs i → IsNode xs j → entryOf xs i .key ≡ entryOf xs j .key → entryOf xs i .number ≡ entryOf xs j .number → i ≡ j
+node-single xs s i j a b k n = go (between (λ x y. order (entryOf xs x) (entryOf xs y) ≡ less) (s .sequence) (s .ascending) i j (everywhere xs s i (a .some) (a .most)) (everywhere xs s j (b .some) (b .most)))
+  where
+    go : (i ≡ j) ⊎ ((order (entryOf xs i) (entryOf xs j) ≡ less) ⊎ (order (entryOf xs j) (entryOf xs i) ≡ less)) → i ≡ j
+    go (inl e) = e
+    go (inr (inl l)) = absurd (omega (arith, n, entries-less-number _ _ _ _ k l))
+    go (inr (inr l)) = absurd (omega (arith, n, entries-less-number _ _ _ _ (sym k) l))
+
+-- the number that is shown of a node is its entry's
+pub number-told : (xs : List ℕ) → Sound xs → (i : ℕ) → IsNode xs i → shownNumber (numberView xs (on i)) ≡ entryOf xs i .number
+number-told xs s i n = ap shownNumber (number-shown xs s i n)
+
+-- ---- cuts
+
+-- the cut past a key is its own
+pub past-past : (c : Cut) → pastOf (pastOf c) ≡ pastOf c
+past-past all = refl
+past-past from = refl
+past-past above = refl
+past-past below = refl
+
+-- each move's target is the best behind a cut
+module _ (s : ℕ) (es : List Entry) where
+  pub first-behind : (t : List ℕ) (k : Maybe (List ℕ)) → target first s k es ≡ best (λ a b. isLess (cmpOf all a b)) (admits all t) s es es
+  first-behind t k = refl
+
+  pub seek-behind : (t : List ℕ) (k : Maybe (List ℕ)) → target (seek t) s k es ≡ best (λ a b. isLess (cmpOf from a b)) (admits from t) s es es
+  seek-behind t k = refl
+
+  pub next-behind : (k : List ℕ) → target next s (some k) es ≡ best (λ a b. isLess (cmpOf above a b)) (admits above k) s es es
+  next-behind k = refl
+
+  pub next-nowhere : (t : List ℕ) → target next s none es ≡ best (λ a b. isLess (cmpOf all a b)) (admits all t) s es es
+  next-nowhere t = refl
+
+  pub previous-behind : (k : List ℕ) → target previous s (some k) es ≡ best (λ a b. isLess (cmpOf below a b)) (admits below k) s es es
+  previous-behind k = refl
+
+-- ---- lookups
+
+-- on any bytes a lookup takes few looks
+pub get-looks : (xs k : List ℕ) (s : ℕ) (a : Lookup) → get xs k s ≡ given a → a .looks ≤ maxNodes + levels
+unfolding get
+get-looks xs k s a e =
+    let (h, p) = demand-given (headerHolds xs) badImage _ a e in
+    let (_, q) = demand-given (leb s maxNumber) badNumber _ a p in
+    let (_, r) = demand-given (leb (length k) maxKey) longKey _ a q in
+    let (f, i, t) = reading-given (searched xs toStop k s) _ a r in
+    let (b, _, u) = reading-given (saidAt xs k (standing f)) _ a t in
+    let z : looksOf f ≡ a .looks = same u in
+    omega (arith, z, searched-looks xs toStop k s f i, header-sound xs h .few)
+  where
+    same : {c d : Lookup} → _≡_ {A = Answer Lookup} (given c) (given d) → c .looks ≡ d .looks
+    same e = let z : _ ≡ _ = e in cc
+
+-- ---- refusals
+
+-- from a refusal of the definitions back to that of the code
+unfoldable pub refusalFrom : is.Refusal → Refusal
+refusalFrom is.badImage = refusal.BadImage
+refusalFrom is.badKind = refusal.BadKind
+refusalFrom is.badNumber = refusal.BadNumber
+refusalFrom is.longKey = refusal.LongKey
+refusalFrom is.longValue = refusal.LongValue
+refusalFrom is.badHeight = refusal.BadHeight
+refusalFrom is.noRoom = refusal.NoRoom
+refusalFrom is.duplicate = refusal.Duplicate
+refusalFrom is.damaged = refusal.Damaged
+refusalFrom is.noNode = refusal.NoNode
+
+pub refusal-back : (q : Refusal) → refusalFrom (refusalIs q) ≡ q
+unfolding refusalFrom
+refusal-back refusal.BadImage = refl
+refusal-back refusal.BadKind = refl
+refusal-back refusal.BadNumber = refl
+refusal-back refusal.LongKey = refl
+refusal-back refusal.LongValue = refl
+refusal-back refusal.BadHeight = refl
+refusal-back refusal.NoRoom = refl
+refusal-back refusal.Duplicate = refl
+refusal-back refusal.Damaged = refl
+refusal-back refusal.NoNode = refl

@@ -1,0 +1,248 @@
+-- The answers of two tables folded into one.
+use Prim.Native.Nat.{ℕ, _≤_, _<_}
+use native.Mathlib.Omega.{arith}
+use mathlib.Core.Path.{_≡_, refl, sym, ap, subst, _∙_}
+use mathlib.Core.Logic.{_⊎_, inl, inr}
+use mathlib.Core.List.{List, _++_}
+use mathlib.Core.Bool.{Bool, true, false, false≢true}
+use lib.Dec.{ltb}
+use borrow.Author.Tests.{ltb-true, ltb-false, lt-ltb, le-ltb}
+use Rattle.rule.specs.Lists.{cond, Maybe, none, some, All}
+use Rattle.rule.specs.Order.{isLess}
+use Rattle.rule.specs.Entries.{Entry}
+use Rattle.rule.specs.Rows.{fits, newest}
+use Rattle.rule.specs.Nearest.{HasKey, Least, sooner}
+use Rattle.rule.proofs.Lists.{all-nil}
+use Rattle.rule.proofs.Order.{neither-less}
+use Rattle.rule.proofs.Rows.{Newest as NewestOf, newest-is, newest-append, latest, fits-true}
+use Rattle.rule.proofs.Nearest.{least-append}
+use Rattle.image.specs.Nodes.{entryOf}
+use Rattle.image.specs.Sound.{Sound, held}
+use Rattle.image.specs.EntryMoves.{on, viewed, keyView, numberView}
+use Rattle.image.specs.Meaning.{IsNode}
+use Rattle.image.specs.Cuts.{Cut, cmpOf, admits}
+use Rattle.image.proofs.Nearest.{way}
+use Rattle.image.proofs.Views.{key-shown}
+use Rattle.table.specs.EntryViews.{shownNumber}
+use Rattle.table.specs.Questions.{Nears, TellsNewest}
+use Rattle.table.specs.declared.questions.Hit.{Hit}
+use Rattle.table.specs.declared.questions.Hit.the-variants as hit
+use Rattle.table.specs.declared.questions.NewestAt.{NewestAt}
+use Rattle.table.specs.declared.questions.NewestAt.the-variants as newestAt
+use Rattle.cursor.proofs.Laws.{number-told}
+use Rattle.cursor.specs.Places.{imageOf, earlier, all, place, entryAt, keyAt, numberAt, PlaceIn}
+use Rattle.cursor.specs.Merging.{metAt, metIn, nearerOf, soonerOf, MetIn, NearestOver, NearestIs, versionIn, newerOf, NewestAmong, NewestOver, NewestIs}
+use Rattle.cursor.specs.declared.places.Side.{Side}
+use Rattle.cursor.specs.declared.places.Side.the-variants.{First, Second}
+use Rattle.cursor.specs.declared.places.Place.{Place}
+use Rattle.cursor.specs.declared.merging_iter.Meeting.{Meeting}
+use Rattle.cursor.specs.declared.merging_iter.Nearest.{Nearest}
+use Rattle.cursor.specs.declared.merging_iter.Nearest.the-variants as nearest
+use Rattle.cursor.specs.declared.merging_iter.Version.{Version}
+use Rattle.cursor.specs.declared.merging_iter.Newest.{Newest}
+use Rattle.cursor.specs.declared.merging_iter.Newest.the-variants as newer
+
+-- ---- what stands at a place
+
+module _ (f g : List ℕ) (p : Place) where
+  -- by its table
+  pub key-first : {k : List ℕ} → p .table ≡ First → k ≡ viewed f (keyView f (on (p .node))) → k ≡ keyAt f g p
+  key-first e h = rw e h
+
+  pub key-second : {k : List ℕ} → p .table ≡ Second → k ≡ viewed g (keyView g (on (p .node))) → k ≡ keyAt f g p
+  key-second e h = rw e h
+
+  pub number-first : {n : ℕ} → p .table ≡ First → n ≡ shownNumber (numberView f (on (p .node))) → n ≡ numberAt f g p
+  number-first e h = rw e h
+
+  pub number-second : {n : ℕ} → p .table ≡ Second → n ≡ shownNumber (numberView g (on (p .node))) → n ≡ numberAt f g p
+  number-second e h = rw e h
+
+-- on sound tables it is the entry
+module _ (f g : List ℕ) (x : Sound f) (y : Sound g) where
+  pub sound-of : (side : Side) → Sound (imageOf side f g)
+  sound-of First = x
+  sound-of Second = y
+
+  pub key-told : (p : Place) → PlaceIn f g p → keyAt f g p ≡ entryAt f g p .key
+  key-told p n = key-shown (imageOf (p .table) f g) (sound-of (p .table)) (p .node) n
+
+  pub number-at-told : (p : Place) → PlaceIn f g p → numberAt f g p ≡ entryAt f g p .number
+  number-at-told p n = number-told (imageOf (p .table) f g) (sound-of (p .table)) (p .node) n
+
+-- ---- the key that comes next
+
+module _ (f g : List ℕ) (c : Cut) (t : List ℕ) where
+  -- one table's answer
+  met-first : {r : Nearest} (a : Hit) → Nears f c t a → r ≡ metIn First a → NearestOver (held f) f g c t r
+  met-first a n e = rw e (go a n)
+    where
+      go : (a : Hit) → Nears f c t a → NearestOver (held f) f g c t (metIn First a)
+      go (hit.At i) n = record {
+        rule = λ x y. let l : Least (cmpOf c) (admits c t) (held f) (some (keyAt f g (place First i))) = rw (key-shown f x i (n .range)) (n .rule x .1) in (l, record { in-first = λ _. l .0; in-second = λ z. absurd (false≢true z) });
+        range = record { inside = n .range; somewhere = inl refl };
+      }
+      go hit.Nothing n = record { rule = λ x y. n .rule x; range = tt }
+      go hit.Damaged n = record { rule = λ x y. n .rule x; range = tt }
+
+  met-second : {r : Nearest} (a : Hit) → Nears g c t a → r ≡ metIn Second a → NearestOver (held g) f g c t r
+  met-second a n e = rw e (go a n)
+    where
+      go : (a : Hit) → Nears g c t a → NearestOver (held g) f g c t (metIn Second a)
+      go (hit.At i) n = record {
+        rule = λ x y. let l : Least (cmpOf c) (admits c t) (held g) (some (keyAt f g (place Second i))) = rw (key-shown g y i (n .range)) (n .rule y .1) in (l, record { in-first = λ z. absurd (false≢true z); in-second = λ _. l .0 });
+        range = record { inside = n .range; somewhere = inr refl };
+      }
+      go hit.Nothing n = record { rule = λ x y. n .rule y; range = tt }
+      go hit.Damaged n = record { rule = λ x y. n .rule y; range = tt }
+
+  join : (a b : Maybe (List ℕ)) → Least (cmpOf c) (admits c t) (held f) a → Least (cmpOf c) (admits c t) (held g) b → Least (cmpOf c) (admits c t) (all f g) (sooner (cmpOf c) a b)
+  join a b = least-append (cmpOf c) (way c) (admits c t) (held f) (held g) a b
+
+  nearer-over : (x y : Meeting) → NearestOver (held f) f g c t (nearest.At x) → NearestOver (held g) f g c t (nearest.At y) → NearestIs f g c t (nearest.At (nearerOf (keyAt f g) c x y))
+  nearer-over x y a b = go (isLess (cmpOf c l k)) refl (isLess (cmpOf c k l)) refl (λ u v. join (some k) (some l) (a .rule u v .0) (b .rule u v .0))
+    where
+      k : List ℕ
+      k = keyAt f g (x .place)
+
+      l : List ℕ
+      l = keyAt f g (y .place)
+
+      go : (p : Bool) → isLess (cmpOf c l k) ≡ p → (q : Bool) → isLess (cmpOf c k l) ≡ q → (Sound f → Sound g → Least (cmpOf c) (admits c t) (all f g) (some (cond p l k)))
+          → NearestIs f g c t (nearest.At (cond p y (cond q x (record { place = x .place; first = true; second = true }))))
+      go true e q d h = record { rule = λ u v. (h u v, b .rule u v .1); range = b .range }
+      go false e true d h = record { rule = λ u v. (h u v, a .rule u v .1); range = a .range }
+      go false e false d h = record {
+        rule = λ u v. (h u v, record { in-first = λ _. a .rule u v .0 .0; in-second = λ _. rw (neither-less (cmpOf c) (way c) k l d e) (b .rule u v .0 .0) });
+        range = record { inside = a .range .inside; somewhere = inl refl };
+      }
+
+  -- the sooner of both
+  sooner-over : {r : Nearest} (a b : Nearest) → NearestOver (held f) f g c t a → NearestOver (held g) f g c t b → r ≡ soonerOf (keyAt f g) c a b → NearestIs f g c t r
+  sooner-over a b x y e = rw e (go a b x y)
+    where
+      go : (a b : Nearest) → NearestOver (held f) f g c t a → NearestOver (held g) f g c t b → NearestIs f g c t (soonerOf (keyAt f g) c a b)
+      go nearest.Damaged b x y = record { rule = λ u v. absurd (x .rule u v); range = tt }
+      go nearest.Nothing nearest.Damaged x y = record { rule = λ u v. absurd (y .rule u v); range = tt }
+      go nearest.Nothing nearest.Nothing x y = record { rule = λ u v. join none none (x .rule u v) (y .rule u v); range = tt }
+      go nearest.Nothing (nearest.At m) x y = record { rule = λ u v. (join none (some (keyAt f g (m .place))) (x .rule u v) (y .rule u v .0), y .rule u v .1); range = y .range }
+      go (nearest.At m) nearest.Damaged x y = record { rule = λ u v. absurd (y .rule u v); range = tt }
+      go (nearest.At m) nearest.Nothing x y = record { rule = λ u v. (join (some (keyAt f g (m .place))) none (x .rule u v .0) (y .rule u v), x .rule u v .1); range = x .range }
+      go (nearest.At m) (nearest.At n) x y = nearer-over m n x y
+
+  pub nearest-both : {p q r : Nearest} (a b : Hit) → Nears f c t a → p ≡ metIn First a → Nears g c t b → q ≡ metIn Second b → r ≡ soonerOf (keyAt f g) c p q → NearestIs f g c t r
+  nearest-both {p} {q} a b x d y e h = sooner-over p q (met-first a x d) (met-second b y e) h
+
+-- the nearer by cases
+module _ (key : Place → List ℕ) (c : Cut) (x y : Meeting) {k l : List ℕ} {b : Bool} (ek : k ≡ key (x .place)) (el : l ≡ key (y .place)) (eb : b ≡ isLess (cmpOf c l k)) where
+  pub nearer-second : b ≡ true → y ≡ nearerOf key c x y
+  nearer-second h = rw (← ek, ← el, ← eb, h)
+
+  module _ (h : b ≡ false) {d : Bool} (ed : d ≡ isLess (cmpOf c k l)) where
+    pub nearer-first : d ≡ true → x ≡ nearerOf key c x y
+    nearer-first z = rw (← ek, ← el, ← eb, h, ← ed, z)
+
+    pub nearer-both : d ≡ false → record { place = x .place; first = true; second = true } ≡ nearerOf key c x y
+    nearer-both z = rw (← ek, ← el, ← eb, h, ← ed, z)
+
+-- ---- the newest entry of a key
+
+-- what is said of the newest of a list
+pub known : (k : List ℕ) (s : ℕ) (es : List Entry) (n : Maybe Entry) → newest k s es ≡ n → NewestOf k s es n
+known k s es n e = subst (NewestOf k s es) e (newest-is k s es)
+
+-- the answer is about the one table
+abbrev OnSide : Side → Newest → Type 0
+OnSide side (newer.At v) = v .place .table ≡ side
+OnSide side newer.Nothing = Unit
+OnSide side newer.Damaged = Unit
+
+on-side : (side : Side) {r : Newest} (a : NewestAt) → r ≡ versionIn side a → OnSide side r
+on-side side a e = rw e (go a)
+  where
+    go : (a : NewestAt) → OnSide side (versionIn side a)
+    go (newestAt.Value i) = refl
+    go (newestAt.Deletion i) = refl
+    go newestAt.Absent = tt
+    go newestAt.Damaged = tt
+
+-- what holds of the first table's entries holds of those before a place of the second
+before-second : (f : List ℕ) (P : Entry → Type 0) (side : Side) → side ≡ Second → All P (held f) → All P (earlier side f)
+before-second f P side e h = rw e h
+
+module _ (f g : List ℕ) (k : List ℕ) (s : ℕ) where
+  -- one table's answer
+  version-first : {r : Newest} (a : NewestAt) → TellsNewest f k s a → r ≡ versionIn First a → NewestOver (held f) f g k s r
+  version-first a n e = rw e (go a n)
+    where
+      go : (a : NewestAt) → TellsNewest f k s a → NewestOver (held f) f g k s (versionIn First a)
+      go (newestAt.Value i) n = record { rule = λ x y. (n .rule x .newest-is, n .rule x .kind-is); range = n .range }
+      go (newestAt.Deletion i) n = record { rule = λ x y. (n .rule x .newest-is, n .rule x .kind-is); range = n .range }
+      go newestAt.Absent n = record { rule = λ x y. n .rule x; range = tt }
+      go newestAt.Damaged n = record { rule = λ x y. n .rule x; range = tt }
+
+  version-second : {r : Newest} (a : NewestAt) → TellsNewest g k s a → r ≡ versionIn Second a → NewestOver (held g) f g k s r
+  version-second a n e = rw e (go a n)
+    where
+      go : (a : NewestAt) → TellsNewest g k s a → NewestOver (held g) f g k s (versionIn Second a)
+      go (newestAt.Value i) n = record { rule = λ x y. (n .rule y .newest-is, n .rule y .kind-is); range = n .range }
+      go (newestAt.Deletion i) n = record { rule = λ x y. (n .rule y .newest-is, n .rule y .kind-is); range = n .range }
+      go newestAt.Absent n = record { rule = λ x y. n .rule y; range = tt }
+      go newestAt.Damaged n = record { rule = λ x y. n .rule y; range = tt }
+
+  together : (a b : Maybe Entry) → newest k s (held f) ≡ a → newest k s (held g) ≡ b → newest k s (all f g) ≡ latest a b
+  together a b x y = newest-append k s (held f) (held g) ∙ rw (x, y)
+
+  -- the newer of both; of equal numbers the first table's
+  newer-at : (v w : Version) → NewestOver (held f) f g k s (newer.At v) → NewestOver (held g) f g k s (newer.At w) → v .place .table ≡ First → w .place .table ≡ Second
+      → NewestIs f g k s (cond (ltb (numberAt f g (v .place)) (numberAt f g (w .place))) (newer.At w) (newer.At v))
+  newer-at v w a b sa sb = go (ltb m n) refl
+    where
+      m : ℕ
+      m = numberAt f g (v .place)
+
+      n : ℕ
+      n = numberAt f g (w .place)
+
+      both : (x : Sound f) (y : Sound g) → newest k s (all f g) ≡ some (cond (ltb m n) (entryAt f g (w .place)) (entryAt f g (v .place)))
+      both x y = together (some (entryAt f g (v .place))) (some (entryAt f g (w .place))) (a .rule x y .0) (b .rule x y .0) ∙ rw (number-at-told f g x y (v .place) (a .range), number-at-told f g x y (w .place) (b .range))
+
+      go : (t : Bool) → ltb m n ≡ t → NewestIs f g k s (cond t (newer.At w) (newer.At v))
+      go true e = record {
+        over = record { rule = λ x y. (rw e at (both x y), b .rule x y .1); range = b .range };
+        first = λ x y. before-second f _ (w .place .table) sb (λ d i z. let h = known k s (held f) (some (entryAt f g (v .place))) (a .rule x y .0) .2 d i (fits-true k s d z) in
+            omega (arith, h, ltb-true m n e, number-at-told f g x y (v .place) (a .range), number-at-told f g x y (w .place) (b .range)));
+      }
+      go false e = record {
+        over = record { rule = λ x y. (rw e at (both x y), a .rule x y .1); range = a .range };
+        first = λ x y. rw sa (all-nil _);
+      }
+
+  newer-over : {r : Newest} (a b : Newest) → NewestOver (held f) f g k s a → NewestOver (held g) f g k s b → OnSide First a → OnSide Second b → r ≡ newerOf (numberAt f g) a b → NewestIs f g k s r
+  newer-over a b x y p q e = rw e (go a b x y p q)
+    where
+      go : (a b : Newest) → NewestOver (held f) f g k s a → NewestOver (held g) f g k s b → OnSide First a → OnSide Second b → NewestIs f g k s (newerOf (numberAt f g) a b)
+      go newer.Damaged b x y p q = record { over = record { rule = λ u v. absurd (x .rule u v); range = tt }; first = λ u v. tt }
+      go newer.Nothing newer.Damaged x y p q = record { over = record { rule = λ u v. absurd (y .rule u v); range = tt }; first = λ u v. tt }
+      go newer.Nothing newer.Nothing x y p q = record { over = record { rule = λ u v. together none none (x .rule u v) (y .rule u v); range = tt }; first = λ u v. tt }
+      go newer.Nothing (newer.At w) x y p q = record {
+        over = record { rule = λ u v. (together none (some (entryAt f g (w .place))) (x .rule u v) (y .rule u v .0), y .rule u v .1); range = y .range };
+        first = λ u v. before-second f _ (w .place .table) q (λ d i z. absurd (known k s (held f) none (x .rule u v) d i (fits-true k s d z)));
+      }
+      go (newer.At w) newer.Damaged x y p q = record { over = record { rule = λ u v. absurd (y .rule u v); range = tt }; first = λ u v. tt }
+      go (newer.At w) newer.Nothing x y p q = record {
+        over = record { rule = λ u v. (together (some (entryAt f g (w .place))) none (x .rule u v .0) (y .rule u v), x .rule u v .1); range = x .range };
+        first = λ u v. rw p (all-nil _);
+      }
+      go (newer.At v) (newer.At w) x y p q = newer-at v w x y p q
+
+  pub newest-both : {p q r : Newest} (a b : NewestAt) → TellsNewest f k s a → p ≡ versionIn First a → TellsNewest g k s b → q ≡ versionIn Second b → r ≡ newerOf (numberAt f g) p q → NewestIs f g k s r
+  newest-both {p} {q} a b x d y e h = newer-over p q (version-first a x d) (version-second b y e) (on-side First a d) (on-side Second b e) h
+
+-- the newer by cases
+module _ (number : Place → ℕ) (x y : Version) {m n : ℕ} (em : m ≡ number (x .place)) (en : n ≡ number (y .place)) where
+  pub newer-second : m < n → newer.At y ≡ newerOf number (newer.At x) (newer.At y)
+  newer-second h = rw (← em, ← en, lt-ltb m n h)
+
+  pub newer-first : n ≤ m → newer.At x ≡ newerOf number (newer.At x) (newer.At y)
+  newer-first h = rw (← em, ← en, le-ltb m n h)

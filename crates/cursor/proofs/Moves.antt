@@ -1,0 +1,192 @@
+-- The moves of the visible cursor: their tests, and where their walks lead.
+use Prim.Native.Nat.{ℕ, _≤_, _<_}
+use mathlib.Core.Path.{_≡_, refl, sym, ap, subst, _∙_}
+use mathlib.Core.Logic.{⊎-elim}
+use mathlib.Core.List.{List, []}
+use mathlib.Core.Bool.{Bool, true, false, not, true≢false}
+use lib.ListN.{length}
+use lib.Dec.{leb}
+use borrow.Author.Tests.{not-true, not-false, le-leb, lt-leb}
+use Rattle.rule.specs.Lists.{Maybe, none, some}
+use Rattle.rule.specs.Moves.{Move, target}
+use Rattle.rule.specs.Moves as rule
+use Rattle.image.specs.Limits.{maxKey, maxNumber}
+use Rattle.image.specs.Sound.{Sound, headerHolds}
+use Rattle.image.specs.EntryMoves.{on, inTable}
+use Rattle.image.specs.Cuts.{Cut}
+use Rattle.image.specs.Cuts as cut
+use Rattle.image.specs.Refusals as is
+use Rattle.image.specs.Refusals.{Answer, given, demand, badImage, noNode, badNumber, longKey}
+use Rattle.image.proofs.Refusals.{refused-given, demand-given}
+use Rattle.image.proofs.Views.{view-accepted}
+use Rattle.table.specs.Refusals.{refusalIs}
+use Rattle.table.specs.MemtableIter.{Tested}
+use Rattle.table.specs.declared.refusals.Refusal.{Refusal}
+use Rattle.table.specs.declared.refusals.Refusal.the-variants as refusal
+use Rattle.table.specs.declared.memtable_iter.CursorTest.{CursorTest}
+use Rattle.table.specs.declared.memtable_iter.CursorTest.the-variants as test
+use Rattle.cursor.proofs.Laws.{in-table, first-behind, seek-behind, next-behind, next-nowhere, previous-behind}
+use Rattle.cursor.proofs.Merging.{sound-of, key-told}
+use Rattle.cursor.specs.Places.{imageOf, all, entryAt, keyAt, PlaceIn, CursorIn, HeadersHold, inside, refusalAt}
+use Rattle.cursor.specs.Walks.{bestOf, Ends, FoundIn, Walked}
+use Rattle.cursor.specs.Moves.{asked, testAs, keyGiven, startKey, movedOf, LeadsTo, RefusedWith, MovedIn, Went, WentFrom, Moves}
+use Rattle.cursor.specs.declared.places.Side.{Side}
+use Rattle.cursor.specs.declared.places.Side.the-variants.{First, Second}
+use Rattle.cursor.specs.declared.places.Place.{Place}
+use Rattle.cursor.specs.declared.places.Cursor.{Cursor}
+use Rattle.cursor.specs.declared.places.Cursor.the-variants.{Nowhere, On}
+use Rattle.cursor.specs.declared.walk.Found.{Found}
+use Rattle.cursor.specs.declared.walk.Found.the-variants as found
+use Rattle.cursor.specs.declared.db_iter.Moved.{Moved}
+use Rattle.cursor.specs.declared.db_iter.Moved.the-variants.{To, Refused}
+use Rattle.cursor.specs.declared.db_iter.MoveTest.{MoveTest}
+use Rattle.cursor.specs.declared.db_iter.MoveTest.the-variants.{Passed, Failed}
+
+-- ---- the test of a cursor
+
+module _ (f g : List ℕ) (p : Place) where
+  pub tested-first : (t : CursorTest) → p .table ≡ First → Tested f (on (p .node)) t → Tested (imageOf (p .table) f g) (on (p .node)) t
+  tested-first t e h = rw e h
+
+  pub tested-second : (t : CursorTest) → p .table ≡ Second → Tested g (on (p .node)) t → Tested (imageOf (p .table) f g) (on (p .node)) t
+  tested-second t e h = rw e h
+
+  header-of : HeadersHold f g → (side : Side) → headerHolds (imageOf side f g) ≡ true
+  header-of h First = h .first
+  header-of h Second = h .second
+
+  module _ {c : Cursor} (e : c ≡ On p) {t : CursorTest} (tested : Tested (imageOf (p .table) f g) (on (p .node)) t) where
+    pub inside-passed : t ≡ test.Passed → true ≡ inside f g c
+    inside-passed h = let (a, b) = rw h at tested in rw e (sym b)
+
+    pub inside-failed : HeadersHold f g → {q : Refusal} → t ≡ test.Failed q → false ≡ inside f g c
+    inside-failed holds h = rw e (⊎-elim (λ w. absurd (true≢false (sym (header-of holds (p .table)) ∙ w .0))) (λ w. sym (w .1)) (rw h at tested))
+
+-- ---- the test of the arguments
+
+module _ (f g : List ℕ) (s : ℕ) (c : Cursor) (t : List ℕ) {a : Bool} (ea : a ≡ headerHolds f) where
+  pub asked-first : not a ≡ true → testAs (Failed refusal.BadImage) ≡ asked f g s c t
+  unfolding asked
+  asked-first h = rw (← ea, not-true a h)
+
+  module _ (ha : not a ≡ false) {b : Bool} (eb : b ≡ headerHolds g) where
+    pub asked-second : not b ≡ true → testAs (Failed refusal.BadImage) ≡ asked f g s c t
+    unfolding asked
+    asked-second h = rw (← ea, not-false a ha, ← eb, not-true b h)
+
+    module _ (hb : not b ≡ false) where
+      pub headers-hold : HeadersHold f g
+      headers-hold = record { first = sym ea ∙ not-false a ha; second = sym eb ∙ not-false b hb }
+
+      module _ {d : Bool} (ed : d ≡ inside f g c) where
+        pub asked-cursor : not d ≡ true → testAs (Failed refusal.NoNode) ≡ asked f g s c t
+        unfolding asked
+        asked-cursor h = rw (← ea, not-false a ha, ← eb, not-false b hb, ← ed, not-true d h)
+
+        module _ (hd : not d ≡ false) {n : Bool} (en : n ≡ leb s maxNumber) where
+          pub asked-number : not n ≡ true → testAs (Failed refusal.BadNumber) ≡ asked f g s c t
+          unfolding asked
+          asked-number h = rw (← ea, not-false a ha, ← eb, not-false b hb, ← ed, not-false d hd, ← en, not-true n h)
+
+          module _ (hn : not n ≡ false) where
+            pub asked-key : maxKey < length t → testAs (Failed refusal.LongKey) ≡ asked f g s c t
+            unfolding asked
+            asked-key h = rw (← ea, not-false a ha, ← eb, not-false b hb, ← ed, not-false d hd, ← en, not-false n hn, lt-leb (length t) maxKey h)
+
+            pub asked-passed : length t ≤ maxKey → testAs Passed ≡ asked f g s c t
+            unfolding asked
+            asked-passed h = rw (← ea, not-false a ha, ← eb, not-false b hb, ← ed, not-false d hd, ← en, not-false n hn, le-leb (length t) maxKey h)
+
+-- what arguments that pass have
+module _ (f g : List ℕ) (s : ℕ) (c : Cursor) (t : List ℕ) (e : asked f g s c t ≡ given tt) where
+  passes : (headerHolds f ≡ true) × (headerHolds g ≡ true) × (inside f g c ≡ true)
+  unfolding asked
+  passes = let (a, x) = demand-given (headerHolds f) badImage _ tt e in let (b, y) = demand-given (headerHolds g) badImage _ tt x in (a, b, demand-given (inside f g c) noNode _ tt y .0)
+
+  pub asked-headers : HeadersHold f g
+  asked-headers = record { first = passes .0; second = passes .1 }
+
+  pub asked-inside : CursorIn f g c
+  asked-inside = go c (passes .2)
+    where
+      go : (c : Cursor) → inside f g c ≡ true → CursorIn f g c
+      go Nowhere h = tt
+      go (On p) h = in-table (imageOf (p .table) f g) (p .node) h
+
+-- ---- the walks
+
+pub went : (f g : List ℕ) (s : ℕ) (c : Cut) (t : List ℕ) (at : Cursor) (a : Found) {r : Moved} → Walked f g s c t a → r ≡ movedOf a at → Went f g s c t at r
+went f g s c t at a k e = rw e (record { rule = λ x y. same (bestOf f g s c t) a (k .rule x y); range = within a (k .range) })
+  where
+    same : (n : Maybe (List ℕ)) (a : Found) → Ends f g s n a → LeadsTo f g s n (movedOf a at)
+    same none (found.At p) h = h
+    same none found.Nothing h = h
+    same none found.Damaged h = h
+    same (some l) (found.At p) h = h
+    same (some l) found.Nothing h = h
+    same (some l) found.Damaged h = h
+
+    within : (a : Found) → FoundIn f g a → MovedIn f g at (movedOf a at)
+    within (found.At p) h = h
+    within found.Nothing h = h
+    within found.Damaged h = (refl, refl)
+
+module _ (f g : List ℕ) (s : ℕ) (c : Cut) (p : Place) (at : Cursor) {n : ℕ} (e : n ≡ refusalAt f g p) where
+  -- on sound tables the node at a cursor is read
+  pub from-hurt : (n ≡ 0 → ⊥) → WentFrom f g s c p at (Refused refusal.Damaged at)
+  from-hurt h = record { rule = λ x y i. absurd (h (e ∙ view-accepted (imageOf (p .table) f g) (sound-of f g x y (p .table)) (p .node) i)); range = (refl, refl) }
+
+  pub from-went : {k : List ℕ} → k ≡ keyAt f g p → (r : Moved) → Went f g s c k at r → WentFrom f g s c p at r
+  from-went d r w = record { rule = λ x y i. subst (λ (k : List ℕ). LeadsTo f g s (bestOf f g s c k) r) (d ∙ key-told f g x y p i) (w .rule x y); range = w .range }
+
+-- ---- the moves
+
+module _ (v : Move) (f g : List ℕ) (s : ℕ) (c : Cursor) {t : MoveTest} (e : testAs t ≡ asked f g s c (keyGiven v)) where
+  pub move-refused : {q : Refusal} → t ≡ Failed q → Moves v f g s c (Refused q c)
+  move-refused {q} h = record {
+    refused = λ p d. (which (sym (ap testAs h) ∙ e ∙ d), refl);
+    rule = λ d. absurd (refused-given (sym (ap testAs h) ∙ e ∙ d));
+    range = λ d. absurd (refused-given (sym (ap testAs h) ∙ e ∙ d));
+  }
+    where
+      which : {p o : is.Refusal} → _≡_ {A = Answer {0} Unit} (is.refused o) (is.refused p) → o ≡ p
+      which d = cc
+
+  module _ (h : t ≡ Passed) where
+    pub passed-headers : HeadersHold f g
+    passed-headers = asked-headers f g s c (keyGiven v) (sym e ∙ ap testAs h)
+
+    -- a move that leads to its target
+    leads : (r : Moved) → (Sound f → Sound g → CursorIn f g c → LeadsTo f g s (target v s (startKey f g c) (all f g)) r) → MovedIn f g c r → Moves v f g s c r
+    leads r a b = record {
+      refused = λ q d. absurd (refused-given (sym d ∙ sym e ∙ ap testAs h));
+      rule = λ d x y. a x y (asked-inside f g s c (keyGiven v) d);
+      range = λ d. b;
+    }
+
+    pub move-went : (r : Moved) (d : Cut) (k : List ℕ) → target v s (startKey f g c) (all f g) ≡ bestOf f g s d k → Went f g s d k c r → Moves v f g s c r
+    move-went r d k q w = leads r (λ x y _. subst (λ (n : Maybe (List ℕ)). LeadsTo f g s n r) (sym q) (w .rule x y)) (w .range)
+
+    pub move-from : (r : Moved) (d : Cut) {p : Place} → c ≡ On p → target v s (some (entryAt f g p .key)) (all f g) ≡ bestOf f g s d (entryAt f g p .key) → WentFrom f g s d p (On p) r → Moves v f g s c r
+    move-from r d {p} z q w = leads r (λ x y i. subst (λ (n : Maybe (List ℕ)). LeadsTo f g s n r) (sym q ∙ sym (ap (λ (o : Cursor). target v s (startKey f g o) (all f g)) z)) (w .rule x y (rw z at i))) (subst (λ (o : Cursor). MovedIn f g o r) (sym z) (w .range))
+
+module _ (f g : List ℕ) (s : ℕ) (c : Cursor) {t : MoveTest} (h : t ≡ Passed) where
+  pub move-first : testAs t ≡ asked f g s c [] → {k : List ℕ} {r : Moved} → Went f g s cut.all k c r → Moves rule.first f g s c r
+  move-first e {k} {r} w = move-went rule.first f g s c e h r cut.all k (first-behind s (all f g) k (startKey f g c)) w
+
+  pub move-seek : {k : List ℕ} → testAs t ≡ asked f g s c k → {r : Moved} → Went f g s cut.from k c r → Moves (rule.seek k) f g s c r
+  move-seek {k} e {r} w = move-went (rule.seek k) f g s c e h r cut.from k (seek-behind s (all f g) k (startKey f g c)) w
+
+  module _ (e : testAs t ≡ asked f g s c []) where
+    pub move-next-nowhere : c ≡ Nowhere → {k : List ℕ} {r : Moved} → Went f g s cut.all k c r → Moves rule.next f g s c r
+    move-next-nowhere z {k} {r} w = move-went rule.next f g s c e h r cut.all k (ap (λ (o : Cursor). target rule.next s (startKey f g o) (all f g)) z ∙ next-nowhere s (all f g) k) w
+
+    pub move-next : {p : Place} → c ≡ On p → {r : Moved} → WentFrom f g s cut.above p (On p) r → Moves rule.next f g s c r
+    move-next {p} z {r} w = move-from rule.next f g s c e h r cut.above z (next-behind s (all f g) (entryAt f g p .key)) w
+
+    pub move-prev : {p : Place} → c ≡ On p → {r : Moved} → WentFrom f g s cut.below p (On p) r → Moves rule.previous f g s c r
+    move-prev {p} z {r} w = move-from rule.previous f g s c e h r cut.below z (previous-behind s (all f g) (entryAt f g p .key)) w
+
+    -- from nowhere there is no previous
+    pub move-prev-nowhere : c ≡ Nowhere → Moves rule.previous f g s c (To Nowhere)
+    move-prev-nowhere z = record { refused = λ q d. absurd (refused-given (sym d ∙ sym e ∙ ap testAs h)); rule = λ d x y. rw z tt; range = λ d. tt }

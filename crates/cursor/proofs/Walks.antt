@@ -1,0 +1,194 @@
+-- The walk: one turn, what is kept between turns, and where it ends.
+use Prim.Native.Nat.{ℕ, _+_, _-_, _≤_, _<_}
+use native.Mathlib.Omega.{arith}
+use mathlib.Core.Path.{_≡_, refl, sym, ap, subst, _∙_}
+use mathlib.Core.Logic.{_⊎_, inl, inr, ⊎-elim}
+use mathlib.Core.List.{List}
+use mathlib.Core.Bool.{Bool, true, false}
+use lib.Dec.{ltb, eqb}
+use lib.ListN.{length}
+use borrow.Author.Tests.{lt-ltb, le-ltb, ltb-true, ltb-false, ne-eqb}
+use Rattle.rule.specs.Lists.{cond, Maybe, none, some, isSome}
+use Rattle.rule.specs.Order.{isLess}
+use Rattle.rule.specs.Entries.{Entry, valueKind, deletionKind}
+use Rattle.rule.specs.Rows.{newest, shown, row}
+use Rattle.rule.specs.Moves.{best}
+use Rattle.rule.specs.Nearest.{HasKey, Least, remaining}
+use Rattle.rule.proofs.Nearest.{best-end, best-done, best-past, remaining-length, remaining-mono, remaining-less}
+use Rattle.image.specs.Sound.{Sound, held}
+use Rattle.image.specs.Cuts.{Cut, cmpOf, admits, pastOf}
+use Rattle.image.proofs.Nearest.{way, onward, past-way, past-admits}
+use Rattle.table.specs.Questions.{nodesOf}
+use Rattle.table.proofs.Asking.{nodes-sound}
+use Rattle.cursor.proofs.Laws.{held-length, past-past}
+use Rattle.cursor.specs.Places.{all, entryAt, keyAt}
+use Rattle.cursor.specs.Merging.{MetIn, NearestIs, NewestIs, kindOf}
+use Rattle.cursor.specs.Walks.{Gives, StepRule, Stepped, cutFrom, keyFrom, tickOf, spentOf, bestOf, Ends, Walked}
+use Rattle.cursor.specs.declared.places.Place.{Place}
+use Rattle.cursor.specs.declared.merging_iter.Meeting.{Meeting}
+use Rattle.cursor.specs.declared.merging_iter.Nearest.the-variants as nearest
+use Rattle.cursor.specs.declared.merging_iter.Version.{Version}
+use Rattle.cursor.specs.declared.merging_iter.Newest.the-variants as newer
+use Rattle.cursor.specs.declared.walk.Step.the-variants as step
+use Rattle.cursor.specs.declared.walk.Reached.{Reached}
+use Rattle.cursor.specs.declared.walk.Reached.the-variants.{Start, Past}
+use Rattle.cursor.specs.declared.walk.Left.{Left}
+use Rattle.cursor.specs.declared.walk.Spent.{Spent}
+use Rattle.cursor.specs.declared.walk.Spent.the-variants.{Rest, Over}
+use Rattle.cursor.specs.declared.walk.Found.{Found}
+use Rattle.cursor.specs.declared.walk.Found.the-variants as found
+
+-- ---- one turn
+
+module _ (f g : List ℕ) (s : ℕ) (c : Cut) (t : List ℕ) where
+  pub step-damaged : NearestIs f g c t nearest.Damaged → Stepped f g s c t step.Damaged
+  step-damaged n = record { rule = n .rule; range = tt }
+
+  pub step-end : NearestIs f g c t nearest.Nothing → Stepped f g s c t step.End
+  step-end n = record { rule = n .rule; range = tt }
+
+  module _ {m : Meeting} (n : NearestIs f g c t (nearest.At m)) {k : List ℕ} (e : k ≡ keyAt f g (m .place)) where
+    pub step-hurt : NewestIs f g k s newer.Damaged → Stepped f g s c t step.Damaged
+    step-hurt r = record { rule = r .over .rule; range = tt }
+
+    -- the key has no row
+    passes : (Sound f → Sound g → isSome (row k s (all f g)) ≡ false) → Stepped f g s c t (step.Pass m)
+    passes h = record { rule = λ x y. (n .rule x y .0, n .rule x y .1, rw (← e) (h x y)); range = n .range }
+
+    pub step-absent : NewestIs f g k s newer.Nothing → Stepped f g s c t (step.Pass m)
+    step-absent r = passes (λ x y. ap (λ (a : Maybe Entry). isSome (shown a)) (r .over .rule x y))
+
+    module _ {v : Version} (r : NewestIs f g k s (newer.At v)) where
+      pub step-done : v .value ≡ true → Stepped f g s c t (step.Done (v .place))
+      step-done h = record {
+        rule = λ x y. let o = r .over .rule x y in (k, rw e (n .rule x y .0), record { inside = r .over .range; newest-is = o .0; value-is = rw h at (o .1); first = r .first x y });
+        range = r .over .range;
+      }
+
+      pub step-deleted : v .value ≡ false → Stepped f g s c t (step.Pass m)
+      step-deleted h = passes (λ x y. let o = r .over .rule x y in let d : entryAt f g (v .place) .kind ≡ deletionKind = rw h at (o .1) in
+          ap (λ (a : Maybe Entry). isSome (shown a)) (o .0) ∙ rw (ne-eqb (entryAt f g (v .place) .kind) valueKind (λ u. omega (arith, d, u))))
+
+-- the turn past the key of a place
+pub turn-past : (f g : List ℕ) (s : ℕ) (c : Cut) (t : List ℕ) (p : Place) {d : Cut} {k : List ℕ} {r : _} → d ≡ pastOf c → k ≡ keyAt f g p → Stepped f g s d k r → Stepped f g s (cutFrom c (Past p)) (keyFrom f g t (Past p)) r
+turn-past f g s c t p e h q = rw (← e, ← h) q
+
+-- ---- what it counts
+
+module _ (l : Left) (m : Meeting) {a b : ℕ} (ea : a ≡ tickOf (m .first)) (eb : b ≡ tickOf (m .second)) where
+  pub over-first : l .first < a → Over ≡ spentOf l m
+  over-first h = rw (← ea, lt-ltb (l .first) a h)
+
+  module _ (p : a ≤ l .first) where
+    pub over-second : l .second < b → Over ≡ spentOf l m
+    over-second h = rw (← ea, ← eb, le-ltb (l .first) a p, lt-ltb (l .second) b h)
+
+    pub rest-left : b ≤ l .second → Rest (record { first = l .first - a; second = l .second - b }) ≡ spentOf l m
+    rest-left h = rw (← ea, ← eb, le-ltb (l .first) a p, le-ltb (l .second) b h)
+
+-- a count is used up, or not
+over-means : (l : Left) (m : Meeting) → spentOf l m ≡ Over → (l .first < tickOf (m .first)) ⊎ (l .second < tickOf (m .second))
+over-means l m e = go (ltb (l .first) (tickOf (m .first))) refl (ltb (l .second) (tickOf (m .second))) refl e
+  where
+    go : (p : Bool) → ltb (l .first) (tickOf (m .first)) ≡ p → (q : Bool) → ltb (l .second) (tickOf (m .second)) ≡ q → cond p Over (cond q Over (Rest (record { first = l .first - tickOf (m .first); second = l .second - tickOf (m .second) }))) ≡ Over
+        → (l .first < tickOf (m .first)) ⊎ (l .second < tickOf (m .second))
+    go true p q d e = inl (ltb-true (l .first) (tickOf (m .first)) p)
+    go false p true d e = inr (ltb-true (l .second) (tickOf (m .second)) d)
+    go false p false d e = let z : _≡_ {A = ℕ} 0 1 = cc in absurd (omega arith)
+
+rest-means : (l : Left) (m : Meeting) (r : Left) → spentOf l m ≡ Rest r → (tickOf (m .first) + r .first ≡ l .first) × (tickOf (m .second) + r .second ≡ l .second)
+rest-means l m r e = go (ltb (l .first) (tickOf (m .first))) refl (ltb (l .second) (tickOf (m .second))) refl e
+  where
+    go : (p : Bool) → ltb (l .first) (tickOf (m .first)) ≡ p → (q : Bool) → ltb (l .second) (tickOf (m .second)) ≡ q → cond p Over (cond q Over (Rest (record { first = l .first - tickOf (m .first); second = l .second - tickOf (m .second) }))) ≡ Rest r
+        → (tickOf (m .first) + r .first ≡ l .first) × (tickOf (m .second) + r .second ≡ l .second)
+    go true p q d e = let z : _≡_ {A = ℕ} 0 1 = cc in absurd (omega arith)
+    go false p true d e = let z : _≡_ {A = ℕ} 0 1 = cc in absurd (omega arith)
+    go false p false d e = let z : record { first = l .first - tickOf (m .first); second = l .second - tickOf (m .second) } ≡ r = cc in
+        (omega (arith, ap (λ (x : Left). x .first) z, ltb-false (l .first) (tickOf (m .first)) p), omega (arith, ap (λ (x : Left). x .second) z, ltb-false (l .second) (tickOf (m .second)) d))
+
+-- ---- a key that is passed
+
+-- d is where the walk has come to, c where it began: the cuts past a key are the same
+module _ (es : List Entry) (c d : Cut) (u k : List ℕ) (e : pastOf d ≡ pastOf c) (least : Least (cmpOf d) (admits d u) es (some k)) where
+  -- what comes after the key was behind the cut before
+  further : (l : List ℕ) → admits (pastOf c) k l ≡ true → admits d u l ≡ true
+  further l h = onward d u k l (least .1) (ap (λ (q : List ℕ → Bool). q l) (sym (past-admits d k)) ∙ rw e h)
+
+  -- without a row the search goes on behind it
+  best-on : (s : ℕ) → isSome (row k s es) ≡ false → best (λ a b. isLess (cmpOf d a b)) (admits d u) s es es ≡ best (λ a b. isLess (cmpOf (pastOf c) a b)) (admits (pastOf c) k) s es es
+  best-on s h = best-past (cmpOf d) (way d) s es (admits d u) k least (onward d u) h ∙ rw (← past-admits d k, ← past-way d, e)
+
+  -- a table that has the key has one entry less behind the cut, and none has more
+  one-less : (fs : List Entry) (b : Bool) → (b ≡ true → HasKey k fs) → tickOf b + remaining (admits (pastOf c) k) fs ≤ remaining (admits d u) fs
+  one-less fs false h = omega (arith, remaining-mono (admits d u) (admits (pastOf c) k) further fs)
+  one-less fs true h = omega (arith, remaining-less (admits d u) (admits (pastOf c) k) further k (least .1) itself fs (h refl))
+    where
+      itself : admits (pastOf c) k k ≡ false
+      itself = rw (← e, past-admits d k, way d .same k)
+
+-- ---- between turns
+
+-- the key that is looked for is the first with a row behind the cut where the walk has come to, and the counts last
+pub record Kept (f g : List ℕ) (s : ℕ) (c : Cut) (t : List ℕ) (at : Reached) (left : Left) : Type 0 where
+  pub same : Sound f → Sound g → bestOf f g s c t ≡ bestOf f g s (cutFrom c at) (keyFrom f g t at)
+  pub first : Sound f → Sound g → remaining (admits (cutFrom c at) (keyFrom f g t at)) (held f) ≤ left .first
+  pub second : Sound f → Sound g → remaining (admits (cutFrom c at) (keyFrom f g t at)) (held g) ≤ left .second
+
+-- the walk goes on, with less left
+pub record Going (f g : List ℕ) (s : ℕ) (c : Cut) (t : List ℕ) (at : Reached) (left rest : Left) : Type 0 where
+  pub kept : Kept f g s c t at rest
+  pub fewer : rest .first + rest .second < left .first + left .second
+
+-- the cut past the key of a place is the same from wherever the walk has come to
+past-from : (c : Cut) (at : Reached) → pastOf (cutFrom c at) ≡ pastOf c
+past-from c Start = refl
+past-from c (Past p) = past-past c
+
+-- a header that holds has its length
+module _ (f g : List ℕ) (s : ℕ) (c : Cut) (t : List ℕ) where
+  pub kept-start : {i j : ℕ} → i ≡ nodesOf f → j ≡ nodesOf g → Kept f g s c t Start (record { first = i; second = j })
+  kept-start a b = record {
+    same = λ x y. refl;
+    first = λ x y. omega (arith, remaining-length (admits c t) (held f), held-length f, nodes-sound f x);
+    second = λ x y. omega (arith, remaining-length (admits c t) (held g), held-length g, nodes-sound g y);
+  }
+
+  module _ {at : Reached} {left : Left} (k : Kept f g s c t at left) where
+    ends : (a b : Maybe (List ℕ)) → a ≡ b → (r : Found) → Ends f g s b r → Ends f g s a r
+    ends a b e r h = subst (λ (n : Maybe (List ℕ)). Ends f g s n r) (sym e) h
+
+    pub kept-damaged : Stepped f g s (cutFrom c at) (keyFrom f g t at) step.Damaged → Walked f g s c t found.Damaged
+    kept-damaged r = record { rule = λ x y. absurd (r .rule x y); range = tt }
+
+    pub kept-end : Stepped f g s (cutFrom c at) (keyFrom f g t at) step.End → Walked f g s c t found.Nothing
+    kept-end r = record {
+      rule = λ x y. ends (bestOf f g s c t) none (k .same x y ∙ best-end (cmpOf (cutFrom c at)) (way (cutFrom c at)) s (all f g) (admits (cutFrom c at) (keyFrom f g t at)) (r .rule x y)) found.Nothing tt;
+      range = tt;
+    }
+
+    pub kept-done : {p : Place} → Stepped f g s (cutFrom c at) (keyFrom f g t at) (step.Done p) → Walked f g s c t (found.At p)
+    kept-done {p} r = record { rule = λ x y. go (cutFrom c at) (keyFrom f g t at) (r .rule x y) (k .same x y); range = r .range }
+      where
+        go : (d : Cut) (u : List ℕ) → StepRule f g s d u (step.Done p) → bestOf f g s c t ≡ bestOf f g s d u → Ends f g s (bestOf f g s c t) (found.At p)
+        go d u (l, h, v) e = ends (bestOf f g s c t) (some l) (e ∙ best-done (cmpOf d) (way d) s (all f g) (admits d u) l h (rw (v .newest-is, v .value-is))) (found.At p) v
+
+    module _ {m : Meeting} (r : Stepped f g s (cutFrom c at) (keyFrom f g t at) (step.Pass m)) where
+      less-of : (xs : List ℕ) (b : Bool) → (x : Sound f) (y : Sound g) → (b ≡ true → HasKey (keyAt f g (m .place)) (held xs))
+          → tickOf b + remaining (admits (pastOf c) (keyAt f g (m .place))) (held xs) ≤ remaining (admits (cutFrom c at) (keyFrom f g t at)) (held xs)
+      less-of xs b x y h = one-less (all f g) c (cutFrom c at) (keyFrom f g t at) (keyAt f g (m .place)) (past-from c at) (r .rule x y .0) (held xs) b h
+
+      pub kept-over : spentOf left m ≡ Over → Walked f g s c t found.Damaged
+      kept-over h = record {
+        rule = λ x y. absurd (⊎-elim (λ z. omega (arith, z, k .first x y, less-of f (m .first) x y (r .rule x y .1 .in-first))) (λ z. omega (arith, z, k .second x y, less-of g (m .second) x y (r .rule x y .1 .in-second))) (over-means left m h));
+        range = tt;
+      }
+
+      pub kept-on : {rest : Left} → spentOf left m ≡ Rest rest → Going f g s c t (Past (m .place)) left rest
+      kept-on {rest} h = let (p, q) = rest-means left m rest h in record {
+        kept = record {
+          same = λ x y. k .same x y ∙ best-on (all f g) c (cutFrom c at) (keyFrom f g t at) (keyAt f g (m .place)) (past-from c at) (r .rule x y .0) s (r .rule x y .2);
+          first = λ x y. omega (arith, p, k .first x y, less-of f (m .first) x y (r .rule x y .1 .in-first));
+          second = λ x y. omega (arith, q, k .second x y, less-of g (m .second) x y (r .rule x y .1 .in-second));
+        };
+        fewer = ⊎-elim (λ z. let n : tickOf (m .first) ≡ 1 = rw z in omega (arith, p, q, n)) (λ z. let n : tickOf (m .second) ≡ 1 = rw z in omega (arith, p, q, n)) (r .range .somewhere);
+      }

@@ -1,0 +1,6 @@
+pub mod Places
+pub mod Merging
+pub mod Walks
+pub mod Moves
+pub mod Rows
+pub mod Pairs

@@ -1,0 +1,138 @@
+-- What the two tables answer together: the fold of two answers, and what it means.
+use Prim.Native.Nat.{ℕ, _<_}
+use mathlib.Core.Path.{_≡_}
+use mathlib.Core.Logic.{_⊎_}
+use mathlib.Core.List.{List}
+use mathlib.Core.Bool.{Bool, true, false}
+use lib.Dec.{ltb}
+use Rattle.rule.specs.Lists.{cond, Maybe, none, some, All}
+use Rattle.rule.specs.Order.{isLess}
+use Rattle.rule.specs.Entries.{Entry, valueKind, deletionKind}
+use Rattle.rule.specs.Rows.{fits, newest}
+use Rattle.rule.specs.Nearest.{HasKey, Least}
+use Rattle.image.specs.Sound.{Sound, held}
+use Rattle.image.specs.Cuts.{Cut, cmpOf, admits}
+use Rattle.table.specs.declared.questions.Hit.{Hit}
+use Rattle.table.specs.declared.questions.Hit.the-variants as hit
+use Rattle.table.specs.declared.questions.NewestAt.{NewestAt}
+use Rattle.table.specs.declared.questions.NewestAt.the-variants as newestAt
+use Rattle.cursor.specs.Places.{imageOf, all, earlier, place, entryAt, keyAt, PlaceIn}
+use Rattle.cursor.specs.declared.places.Side.{Side}
+use Rattle.cursor.specs.declared.places.Side.the-variants.{First, Second}
+use Rattle.cursor.specs.declared.places.Place.{Place}
+use Rattle.cursor.specs.declared.merging_iter.Meeting.{Meeting}
+use Rattle.cursor.specs.declared.merging_iter.Nearest.{Nearest}
+use Rattle.cursor.specs.declared.merging_iter.Nearest.the-variants as nearest
+use Rattle.cursor.specs.declared.merging_iter.Version.{Version}
+use Rattle.cursor.specs.declared.merging_iter.Newest.{Newest}
+use Rattle.cursor.specs.declared.merging_iter.Newest.the-variants as newer
+
+-- ---- the key that comes next
+
+-- a key met in one table
+abbrev pub metAt : Side → ℕ → Meeting
+metAt First i = record { place = place First i; first = true; second = false }
+metAt Second i = record { place = place Second i; first = false; second = true }
+
+-- one table's answer
+abbrev pub metIn : Side → Hit → Nearest
+metIn side (hit.At i) = nearest.At (metAt side i)
+metIn side hit.Nothing = nearest.Nothing
+metIn side hit.Damaged = nearest.Damaged
+
+-- of two keys the one that comes before the other; equal ones are met in both tables, at the first's place
+abbrev pub nearerOf : (Place → List ℕ) → Cut → Meeting → Meeting → Meeting
+nearerOf key c x y = cond (isLess (cmpOf c (key (y .place)) (key (x .place)))) y (cond (isLess (cmpOf c (key (x .place)) (key (y .place)))) x (record { place = x .place; first = true; second = true }))
+
+-- the sooner of two answers
+abbrev pub soonerOf : (Place → List ℕ) → Cut → Nearest → Nearest → Nearest
+soonerOf key c nearest.Damaged b = nearest.Damaged
+soonerOf key c nearest.Nothing b = b
+soonerOf key c (nearest.At x) nearest.Damaged = nearest.Damaged
+soonerOf key c (nearest.At x) nearest.Nothing = nearest.At x
+soonerOf key c (nearest.At x) (nearest.At y) = nearest.At (nearerOf key c x y)
+
+-- the tables that a key is said to be met in have it
+pub record MetIn (f g : List ℕ) (k : List ℕ) (m : Meeting) : Type 0 where
+  pub in-first : m .first ≡ true → HasKey k (held f)
+  pub in-second : m .second ≡ true → HasKey k (held g)
+
+-- among some entries: of the keys that the cut admits the one that comes first, or that there is none
+abbrev pub NearestAmong : List Entry → List ℕ → List ℕ → Cut → List ℕ → Nearest → Type 0
+NearestAmong es f g c t (nearest.At m) = Least (cmpOf c) (admits c t) es (some (keyAt f g (m .place))) × MetIn f g (keyAt f g (m .place)) m
+NearestAmong es f g c t nearest.Nothing = Least (cmpOf c) (admits c t) es none
+NearestAmong es f g c t nearest.Damaged = ⊥
+
+-- the place names a node, and the key is met in one table at least
+pub record MeetingIn (f g : List ℕ) (m : Meeting) : Type 0 where
+  pub inside : PlaceIn f g (m .place)
+  pub somewhere : (m .first ≡ true) ⊎ (m .second ≡ true)
+
+-- a node of its table, and met in one table at least
+abbrev pub NearestIn : List ℕ → List ℕ → Nearest → Type 0
+NearestIn f g (nearest.At m) = MeetingIn f g m
+NearestIn f g nearest.Nothing = Unit
+NearestIn f g nearest.Damaged = Unit
+
+-- what is promised of an answer about some of the entries
+pub record NearestOver (es : List Entry) (f g : List ℕ) (c : Cut) (t : List ℕ) (r : Nearest) : Type 0 where
+  pub rule : Sound f → Sound g → NearestAmong es f g c t r
+  pub range : NearestIn f g r
+
+-- and about all of them
+abbrev pub NearestIs : List ℕ → List ℕ → Cut → List ℕ → Nearest → Type 0
+NearestIs f g = NearestOver (all f g) f g
+
+-- ---- the newest entry of a key
+
+-- one table's answer
+abbrev pub versionIn : Side → NewestAt → Newest
+versionIn side (newestAt.Value i) = newer.At (record { place = place side i; value = true })
+versionIn side (newestAt.Deletion i) = newer.At (record { place = place side i; value = false })
+versionIn side newestAt.Absent = newer.Nothing
+versionIn side newestAt.Damaged = newer.Damaged
+
+-- the newer of two answers; of equal numbers the first
+abbrev pub newerOf : (Place → ℕ) → Newest → Newest → Newest
+newerOf number newer.Damaged b = newer.Damaged
+newerOf number newer.Nothing b = b
+newerOf number (newer.At x) newer.Damaged = newer.Damaged
+newerOf number (newer.At x) newer.Nothing = newer.At x
+newerOf number (newer.At x) (newer.At y) = cond (ltb (number (x .place)) (number (y .place))) (newer.At y) (newer.At x)
+
+-- a value and a deletion are told apart
+abbrev pub kindOf : Bool → ℕ
+kindOf true = valueKind
+kindOf false = deletionKind
+
+-- the newest entry of k up to s among some entries, or that there is none
+abbrev pub NewestAmong : List Entry → List ℕ → List ℕ → List ℕ → ℕ → Newest → Type 0
+NewestAmong es f g k s (newer.At v) = (newest k s es ≡ some (entryAt f g (v .place))) × (entryAt f g (v .place) .kind ≡ kindOf (v .value))
+NewestAmong es f g k s newer.Nothing = newest k s es ≡ none
+NewestAmong es f g k s newer.Damaged = ⊥
+
+-- a node of its table
+abbrev pub NewestIn : List ℕ → List ℕ → Newest → Type 0
+NewestIn f g (newer.At v) = PlaceIn f g (v .place)
+NewestIn f g newer.Nothing = Unit
+NewestIn f g newer.Damaged = Unit
+
+-- no table before that of the place has an entry of k up to s that is as new
+abbrev pub FirstAsNew : List ℕ → List ℕ → ℕ → List ℕ → Place → Type 0
+FirstAsNew f g s k p = All (λ e. fits k s e ≡ true → e .number < entryAt f g p .number) (earlier (p .table) f)
+
+-- the same of an answer
+abbrev pub NewestFirst : List ℕ → List ℕ → List ℕ → ℕ → Newest → Type 0
+NewestFirst f g k s (newer.At v) = FirstAsNew f g s k (v .place)
+NewestFirst f g k s newer.Nothing = Unit
+NewestFirst f g k s newer.Damaged = Unit
+
+-- what is promised of an answer about some of the entries
+pub record NewestOver (es : List Entry) (f g : List ℕ) (k : List ℕ) (s : ℕ) (r : Newest) : Type 0 where
+  pub rule : Sound f → Sound g → NewestAmong es f g k s r
+  pub range : NewestIn f g r
+
+-- and about all of them
+pub record NewestIs (f g : List ℕ) (k : List ℕ) (s : ℕ) (r : Newest) : Type 0 where
+  pub over : NewestOver (all f g) f g k s r
+  pub first : Sound f → Sound g → NewestFirst f g k s r

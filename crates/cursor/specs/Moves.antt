@@ -1,0 +1,99 @@
+-- What the moves of the visible cursor promise: `refused`, the refusal of the arguments, `rule`, where they lead on sound tables,
+-- and `range`, what is left of it on any bytes: damage with the cursor as it was handed, or a cursor that names a node.
+use Prim.Native.Nat.{ℕ}
+use mathlib.Core.Path.{_≡_}
+use mathlib.Core.List.{List, []}
+use lib.ListN.{length}
+use lib.Dec.{leb}
+use Rattle.rule.specs.Lists.{Maybe, none, some}
+use Rattle.rule.specs.Moves.{Move, first, seek, next, previous, target}
+use Rattle.image.specs.Limits.{maxKey, maxNumber}
+use Rattle.image.specs.Sound.{Sound, headerHolds}
+use Rattle.image.specs.Cuts.{Cut}
+use Rattle.image.specs.Refusals as is
+use Rattle.image.specs.Refusals.{Answer, refused, given, demand, badImage, noNode, badNumber, longKey, damaged}
+use Rattle.table.specs.Refusals.{refusalIs}
+use Rattle.table.specs.declared.refusals.Refusal.the-variants as refusal
+use Rattle.cursor.specs.Places.{all, entryAt, PlaceIn, CursorIn, inside}
+use Rattle.cursor.specs.Walks.{Gives, bestOf}
+use Rattle.cursor.specs.declared.places.Place.{Place}
+use Rattle.cursor.specs.declared.places.Cursor.{Cursor}
+use Rattle.cursor.specs.declared.places.Cursor.the-variants.{Nowhere, On}
+use Rattle.cursor.specs.declared.walk.Found.{Found}
+use Rattle.cursor.specs.declared.walk.Found.the-variants as found
+use Rattle.cursor.specs.declared.db_iter.Moved.{Moved}
+use Rattle.cursor.specs.declared.db_iter.Moved.the-variants.{To, Refused}
+use Rattle.cursor.specs.declared.db_iter.MoveTest.{MoveTest}
+use Rattle.cursor.specs.declared.db_iter.MoveTest.the-variants.{Passed, Failed}
+
+-- ---- the arguments
+
+-- the refusal that a move's arguments get, in document 01's order: 1 (first table, then second), 10, 3, 4
+unfoldable pub asked : List ℕ → List ℕ → ℕ → Cursor → List ℕ → Answer {0} Unit
+asked f g s c t =
+    demand (headerHolds f) badImage
+    (demand (headerHolds g) badImage
+    (demand (inside f g c) noNode
+    (demand (leb s maxNumber) badNumber
+    (demand (leb (length t) maxKey) longKey
+    (given tt)))))
+
+-- the answer of the test
+abbrev pub testAs : MoveTest → Answer {0} Unit
+testAs Passed = given tt
+testAs (Failed q) = refused (refusalIs q)
+
+-- the key that a move is given
+abbrev pub keyGiven : Move → List ℕ
+keyGiven first = []
+keyGiven (seek t) = t
+keyGiven next = []
+keyGiven previous = []
+
+-- the key that it starts from
+abbrev pub startKey : List ℕ → List ℕ → Cursor → Maybe (List ℕ)
+startKey f g Nowhere = none
+startKey f g (On p) = some (entryAt f g p .key)
+
+-- ---- the answer
+
+-- the end of a walk; damage hands back the cursor
+abbrev pub movedOf : Found → Cursor → Moved
+movedOf (found.At p) c = To (On p)
+movedOf found.Nothing c = To Nowhere
+movedOf found.Damaged c = Refused refusal.Damaged c
+
+-- it leads to the place of the entry that gives the row of the key, or nowhere if there is no key
+abbrev pub LeadsTo : List ℕ → List ℕ → ℕ → Maybe (List ℕ) → Moved → Type 0
+LeadsTo f g s none (To Nowhere) = Unit
+LeadsTo f g s none (To (On p)) = ⊥
+LeadsTo f g s none (Refused q c) = ⊥
+LeadsTo f g s (some k) (To Nowhere) = ⊥
+LeadsTo f g s (some k) (To (On p)) = Gives f g s k p
+LeadsTo f g s (some k) (Refused q c) = ⊥
+
+-- it is this refusal, with the cursor that was handed
+abbrev pub RefusedWith : is.Refusal → Cursor → Moved → Type 0
+RefusedWith q c (To d) = ⊥
+RefusedWith q c (Refused p d) = (refusalIs p ≡ q) × (d ≡ c)
+
+-- a cursor in range, or damage with the cursor that was handed
+abbrev pub MovedIn : List ℕ → List ℕ → Cursor → Moved → Type 0
+MovedIn f g c (To d) = CursorIn f g d
+MovedIn f g c (Refused q d) = RefusedWith damaged c (Refused q d)
+
+-- what a walk behind a cut comes to
+pub record Went (f g : List ℕ) (s : ℕ) (c : Cut) (t : List ℕ) (at : Cursor) (r : Moved) : Type 0 where
+  pub rule : Sound f → Sound g → LeadsTo f g s (bestOf f g s c t) r
+  pub range : MovedIn f g at r
+
+-- and behind a cut at the key of a place
+pub record WentFrom (f g : List ℕ) (s : ℕ) (c : Cut) (p : Place) (at : Cursor) (r : Moved) : Type 0 where
+  pub rule : Sound f → Sound g → PlaceIn f g p → LeadsTo f g s (bestOf f g s c (entryAt f g p .key)) r
+  pub range : MovedIn f g at r
+
+-- what a move promises
+pub record Moves (v : Move) (f g : List ℕ) (s : ℕ) (c : Cursor) (r : Moved) : Type 0 where
+  pub refused : (q : is.Refusal) → asked f g s c (keyGiven v) ≡ is.refused q → RefusedWith q c r
+  pub rule : asked f g s c (keyGiven v) ≡ given tt → Sound f → Sound g → LeadsTo f g s (target v s (startKey f g c) (all f g)) r
+  pub range : asked f g s c (keyGiven v) ≡ given tt → MovedIn f g c r

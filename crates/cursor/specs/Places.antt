@@ -1,0 +1,73 @@
+-- Places in two tables, and what stands there.
+use Prim.Native.Nat.{ℕ}
+use mathlib.Core.Path.{_≡_}
+use mathlib.Core.List.{List, [], _++_}
+use mathlib.Core.Bool.{Bool, true}
+use Rattle.rule.specs.Entries.{Entry}
+use Rattle.image.specs.Nodes.{entryOf}
+use Rattle.image.specs.Sound.{headerHolds, held}
+use Rattle.image.specs.EntryMoves.{on, inTable, viewed, keyView, valueView, numberView, viewRefusal}
+use Rattle.image.specs.Meaning.{IsNode}
+use Rattle.table.specs.EntryViews.{shownNumber}
+use Rattle.cursor.specs.declared.places.Side.{Side}
+use Rattle.cursor.specs.declared.places.Side.the-variants.{First, Second}
+use Rattle.cursor.specs.declared.places.Place.{Place}
+use Rattle.cursor.specs.declared.places.Cursor.{Cursor}
+use Rattle.cursor.specs.declared.places.Cursor.the-variants.{Nowhere, On}
+
+-- the image of a table
+abbrev pub imageOf : Side → List ℕ → List ℕ → List ℕ
+imageOf First f g = f
+imageOf Second f g = g
+
+-- the entries of the tables before it
+abbrev pub earlier : Side → List ℕ → List Entry
+earlier First f = []
+earlier Second f = held f
+
+-- the entries of both, the first table's first
+abbrev pub all : List ℕ → List ℕ → List Entry
+all f g = held f ++ held g
+
+-- a place of a table
+abbrev pub place : Side → ℕ → Place
+place side i = record { table = side; node = i }
+
+-- the entry at a place
+abbrev pub entryAt : List ℕ → List ℕ → Place → Entry
+entryAt f g p = entryOf (imageOf (p .table) f g) (p .node)
+
+-- the key at a place as its table shows it; on a sound table that is the key of the entry
+abbrev pub keyAt : List ℕ → List ℕ → Place → List ℕ
+keyAt f g p = viewed (imageOf (p .table) f g) (keyView (imageOf (p .table) f g) (on (p .node)))
+
+-- the value at a place as its table shows it; a deletion's is empty
+abbrev pub valueAt : List ℕ → List ℕ → Place → List ℕ
+valueAt f g p = viewed (imageOf (p .table) f g) (valueView (imageOf (p .table) f g) (on (p .node)))
+
+-- the number at a place as its table shows it
+abbrev pub numberAt : List ℕ → List ℕ → Place → ℕ
+numberAt f g p = shownNumber (numberView (imageOf (p .table) f g) (on (p .node)))
+
+-- the place names a node of its table
+abbrev pub PlaceIn : List ℕ → List ℕ → Place → Type 0
+PlaceIn f g p = IsNode (imageOf (p .table) f g) (p .node)
+
+-- the cursor does, or is nowhere
+abbrev pub CursorIn : List ℕ → List ℕ → Cursor → Type 0
+CursorIn f g Nowhere = Unit
+CursorIn f g (On p) = PlaceIn f g p
+
+-- the headers of both tables hold
+pub record HeadersHold (f g : List ℕ) : Type 0 where
+  pub first : headerHolds f ≡ true
+  pub second : headerHolds g ≡ true
+
+-- the refusal that the views get at a place, or 0
+abbrev pub refusalAt : List ℕ → List ℕ → Place → ℕ
+refusalAt f g p = viewRefusal (imageOf (p .table) f g) (on (p .node))
+
+-- the cursor names a node of its table, or none
+abbrev pub inside : List ℕ → List ℕ → Cursor → Bool
+inside f g Nowhere = true
+inside f g (On p) = inTable (imageOf (p .table) f g) (on (p .node))

@@ -1,0 +1,99 @@
+-- What a walk keeps and where it ends.
+use Prim.Native.Nat.{ℕ, _-_}
+use mathlib.Core.Path.{_≡_}
+use mathlib.Core.List.{List}
+use mathlib.Core.Bool.{Bool, true, false}
+use lib.Dec.{ltb}
+use Rattle.rule.specs.Lists.{cond, Maybe, none, some, isSome}
+use Rattle.rule.specs.Order.{isLess}
+use Rattle.rule.specs.Entries.{valueKind}
+use Rattle.rule.specs.Rows.{newest, row}
+use Rattle.rule.specs.Moves.{best}
+use Rattle.rule.specs.Nearest.{Least}
+use Rattle.image.specs.Sound.{Sound}
+use Rattle.image.specs.Cuts.{Cut, cmpOf, admits, pastOf}
+use Rattle.cursor.specs.Places.{all, entryAt, keyAt, PlaceIn}
+use Rattle.cursor.specs.Merging.{MetIn, MeetingIn, FirstAsNew}
+use Rattle.cursor.specs.declared.places.Place.{Place}
+use Rattle.cursor.specs.declared.merging_iter.Meeting.{Meeting}
+use Rattle.cursor.specs.declared.walk.Step.{Step}
+use Rattle.cursor.specs.declared.walk.Step.the-variants as step
+use Rattle.cursor.specs.declared.walk.Reached.{Reached}
+use Rattle.cursor.specs.declared.walk.Reached.the-variants.{Start, Past}
+use Rattle.cursor.specs.declared.walk.Left.{Left}
+use Rattle.cursor.specs.declared.walk.Spent.{Spent}
+use Rattle.cursor.specs.declared.walk.Spent.the-variants.{Rest, Over}
+use Rattle.cursor.specs.declared.walk.Found.{Found}
+use Rattle.cursor.specs.declared.walk.Found.the-variants as found
+
+-- p is the place of the entry that gives the row of k at s; in a tie between the tables it is the first's
+pub record Gives (f g : List ℕ) (s : ℕ) (k : List ℕ) (p : Place) : Type 0 where
+  pub inside : PlaceIn f g p
+  pub newest-is : newest k s (all f g) ≡ some (entryAt f g p)
+  pub value-is : entryAt f g p .kind ≡ valueKind
+  pub first : FirstAsNew f g s k p
+
+-- ---- a turn
+
+-- of the keys behind the cut, the first: it has a row, or none; or there is no such key
+abbrev pub StepRule : List ℕ → List ℕ → ℕ → Cut → List ℕ → Step → Type 0
+StepRule f g s c t (step.Done p) = (k : List ℕ) × Least (cmpOf c) (admits c t) (all f g) (some k) × Gives f g s k p
+StepRule f g s c t (step.Pass m) = Least (cmpOf c) (admits c t) (all f g) (some (keyAt f g (m .place))) × MetIn f g (keyAt f g (m .place)) m × (isSome (row (keyAt f g (m .place)) s (all f g)) ≡ false)
+StepRule f g s c t step.End = Least (cmpOf c) (admits c t) (all f g) none
+StepRule f g s c t step.Damaged = ⊥
+
+-- what it names is a node of its table
+abbrev pub StepIn : List ℕ → List ℕ → Step → Type 0
+StepIn f g (step.Done p) = PlaceIn f g p
+StepIn f g (step.Pass m) = MeetingIn f g m
+StepIn f g step.End = Unit
+StepIn f g step.Damaged = Unit
+
+pub record Stepped (f g : List ℕ) (s : ℕ) (c : Cut) (t : List ℕ) (r : Step) : Type 0 where
+  pub rule : Sound f → Sound g → StepRule f g s c t r
+  pub range : StepIn f g r
+
+-- the cut where a walk has come to, and its key
+abbrev pub cutFrom : Cut → Reached → Cut
+cutFrom c Start = c
+cutFrom c (Past p) = pastOf c
+
+abbrev pub keyFrom : List ℕ → List ℕ → List ℕ → Reached → List ℕ
+keyFrom f g t Start = t
+keyFrom f g t (Past p) = keyAt f g p
+
+-- ---- what it counts
+
+-- one node, if the key was met there
+abbrev pub tickOf : Bool → ℕ
+tickOf true = 1
+tickOf false = 0
+
+-- what is left of both counts, or that one is used up
+abbrev pub spentOf : Left → Meeting → Spent
+spentOf l m = cond (ltb (l .first) (tickOf (m .first))) Over (cond (ltb (l .second) (tickOf (m .second))) Over (Rest (record { first = l .first - tickOf (m .first); second = l .second - tickOf (m .second) })))
+
+-- ---- where it ends
+
+-- of the keys behind the cut that have a row, the one that comes first
+abbrev pub bestOf : List ℕ → List ℕ → ℕ → Cut → List ℕ → Maybe (List ℕ)
+bestOf f g s c t = best (λ a b. isLess (cmpOf c a b)) (admits c t) s (all f g) (all f g)
+
+-- the place that gives the row of the key, or that there is none
+abbrev pub Ends : List ℕ → List ℕ → ℕ → Maybe (List ℕ) → Found → Type 0
+Ends f g s none (found.At p) = ⊥
+Ends f g s none found.Nothing = Unit
+Ends f g s none found.Damaged = ⊥
+Ends f g s (some k) (found.At p) = Gives f g s k p
+Ends f g s (some k) found.Nothing = ⊥
+Ends f g s (some k) found.Damaged = ⊥
+
+-- a place that names a node of its table
+abbrev pub FoundIn : List ℕ → List ℕ → Found → Type 0
+FoundIn f g (found.At p) = PlaceIn f g p
+FoundIn f g found.Nothing = Unit
+FoundIn f g found.Damaged = Unit
+
+pub record Walked (f g : List ℕ) (s : ℕ) (c : Cut) (t : List ℕ) (r : Found) : Type 0 where
+  pub rule : Sound f → Sound g → Ends f g s (bestOf f g s c t) r
+  pub range : FoundIn f g r

@@ -1,0 +1,48 @@
+// Places in two tables: which of the two, and the number of a node of it. What stands at a place is asked of its table.
+ghost use mathlib.Core.Path.{_≡_};
+ghost use Rattle.cursor.specs.Places.{keyAt, numberAt};
+use table::entry_views::entry_key;
+use table::entry_views::entry_number;
+use table::memtable_iter::EntryCursor;
+
+// Which of the two tables.
+pub enum Side {
+    First,
+    Second,
+}
+
+// A node of one of them.
+pub struct Place {
+    pub table: Side,
+    pub node: usize,
+}
+
+// Nowhere, or on a place.
+pub enum Cursor {
+    Nowhere,
+    On(Place),
+}
+
+// The key at a place, a part of whichever image holds it; of a node that cannot be read it is empty.
+pub fn key_at<'a>(first: &'a [u8], second: &'a [u8], p: Place) -> &'a [u8]
+    ensures { λ r. ⌜ now r ≡ keyAt (now (first .entry)) (now (second .entry)) p ⌝ }
+{
+    let side = p.table;
+    let node = p.node;
+    match side {
+        Side::First => entry_key(first, EntryCursor::On(node)),
+        Side::Second => entry_key(second, EntryCursor::On(node)),
+    }
+}
+
+// The number at a place; of a node that cannot be read it is 0.
+pub fn number_at(first: &[u8], second: &[u8], p: Place) -> u64
+    ensures { λ r. ⌜ r ≡ numberAt (now (first .entry)) (now (second .entry)) p ⌝ }
+{
+    let side = p.table;
+    let node = p.node;
+    match side {
+        Side::First => entry_number(first, EntryCursor::On(node)),
+        Side::Second => entry_number(second, EntryCursor::On(node)),
+    }
+}
