@@ -6,8 +6,11 @@ mod entry; // entry.rt: entries of one-byte keys and values
 mod limits; // limits.rt: lengths, heights, keys, values, numbers, types
 mod lines; // lines.rt: the line of a case
 mod moves; // moves.rt: the entry cursor over T
+mod pairs; // pairs.rt: two tables and the line of the visible cursor's moves
+mod riser; // riser.rt: a riser's cards, found, lost and retrained
 mod rows; // rows.rt: document 01's table T and its rows
 mod show; // show.rt: texts, numbers and bytes in columns
+mod strays; // strays.rt: where the crate strays from the rule
 mod whole; // whole.rt: fresh, full and smallest tables
 
 // Table T, by lookups and by the cursor.
@@ -39,4 +42,6 @@ fn main() {
     damage::counts();
     damage::links();
     table_t();
+    strays::all();
+    riser::story();
 }
