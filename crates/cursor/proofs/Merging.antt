@@ -29,7 +29,7 @@ use Rattle.table.specs.declared.questions.Hit.{Hit}
 use Rattle.table.specs.declared.questions.Hit.the-variants as hit
 use Rattle.table.specs.declared.questions.NewestAt.{NewestAt}
 use Rattle.table.specs.declared.questions.NewestAt.the-variants as newestAt
-use Rattle.cursor.proofs.Laws.{number-told}
+use Rattle.table.proofs.Laws.{number-told}
 use Rattle.cursor.specs.Places.{imageOf, earlier, all, place, entryAt, keyAt, numberAt, PlaceIn}
 use Rattle.cursor.specs.Merging.{metAt, metIn, nearerOf, soonerOf, MetIn, NearestOver, NearestIs, versionIn, newerOf, NewestAmong, NewestOver, NewestIs}
 use Rattle.cursor.specs.declared.places.Side.{Side}

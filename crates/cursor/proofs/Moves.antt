@@ -25,7 +25,7 @@ use Rattle.table.specs.declared.refusals.Refusal.{Refusal}
 use Rattle.table.specs.declared.refusals.Refusal.the-variants as refusal
 use Rattle.table.specs.declared.memtable_iter.CursorTest.{CursorTest}
 use Rattle.table.specs.declared.memtable_iter.CursorTest.the-variants as test
-use Rattle.cursor.proofs.Laws.{in-table, first-behind, seek-behind, next-behind, next-nowhere, previous-behind}
+use Rattle.table.proofs.Laws.{in-table, first-behind, seek-behind, next-behind, next-nowhere, previous-behind}
 use Rattle.cursor.proofs.Merging.{sound-of, key-told}
 use Rattle.cursor.specs.Places.{imageOf, all, entryAt, keyAt, PlaceIn, CursorIn, HeadersHold, inside, refusalAt}
 use Rattle.cursor.specs.Walks.{bestOf, Ends, FoundIn, Walked}

@@ -23,7 +23,7 @@ use Rattle.table.specs.declared.refusals.Refusal.{Refusal}
 use Rattle.table.specs.declared.refusals.Refusal.the-variants as refusal
 use Rattle.table.specs.declared.memtable.Lookup.{Lookup as LookupHere}
 use Rattle.table.specs.declared.memtable.Lookup.the-variants as lookup
-use Rattle.cursor.proofs.Laws.{get-looks}
+use Rattle.table.proofs.Laws.{get-looks}
 use Rattle.cursor.specs.Places.{place}
 use Rattle.cursor.specs.Pairs.{PairSays, PairLooked, pairAs, saysIn, toldBy, isSaid, answersOf, looksTaken, FewLooks, firstOrSecond, getPair, TellsPair, GetsPair}
 use Rattle.cursor.specs.declared.places.Side.{Side}

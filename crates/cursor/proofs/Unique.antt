@@ -15,7 +15,8 @@ use Rattle.image.specs.Refusals as is
 use Rattle.image.specs.Refusals.{Answer, refused, given}
 use Rattle.table.specs.Refusals.{refusalIs}
 use Rattle.table.specs.declared.refusals.Refusal.{Refusal}
-use Rattle.cursor.proofs.Laws.{node-held, node-single, refusalFrom, refusal-back}
+use Rattle.table.proofs.Laws.{node-held, node-single}
+use Rattle.table.proofs.OneAnswer.{refusalFrom, refusal-back}
 use Rattle.cursor.proofs.Merging.{known}
 use Rattle.cursor.specs.Places.{all, place, entryAt}
 use Rattle.cursor.specs.Walks.{Gives}

@@ -21,7 +21,7 @@ use Rattle.image.specs.Sound.{Sound, held, headerHolds}
 use Rattle.image.specs.Cuts.{Cut, cmpOf, admits, pastOf}
 use Rattle.image.proofs.Nearest.{way, onward, past-way, past-admits}
 use Rattle.image.proofs.Sound.{header-sound}
-use Rattle.cursor.proofs.Laws.{held-length, past-past}
+use Rattle.table.proofs.Laws.{held-length, past-past}
 use Rattle.cursor.specs.Places.{all, entryAt, keyAt, HeadersHold}
 use Rattle.cursor.specs.Merging.{MetIn, NearestIs, NewestIs, kindOf}
 use Rattle.cursor.specs.Walks.{Gives, StepRule, Stepped, cutFrom, keyFrom, tickOf, spentOf, bestOf, Ends, Walked}
