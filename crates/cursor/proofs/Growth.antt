@@ -3,15 +3,12 @@ use Prim.Native.Nat.{ℕ}
 use mathlib.Core.Path.{_≡_, refl, sym, ap, _∙_}
 use mathlib.Core.List.{List}
 use Rattle.rule.specs.Entries.{Entry}
-use Rattle.image.specs.Nodes.{entryOf}
 use Rattle.image.specs.Sound.{Sound}
-use Rattle.image.specs.Meaning.{IsNode}
 use Rattle.table.specs.Growth.{Grows}
-use Rattle.cursor.specs.Places.{imageOf, entryAt, PlaceIn, CursorIn}
+use Rattle.cursor.specs.Places.{imageOf, CursorIn}
 use Rattle.cursor.specs.Rows.{valueIn, entryShown, ShowsKey, ShowsValue, Refuses}
 use Rattle.cursor.specs.declared.places.Side.{Side}
 use Rattle.cursor.specs.declared.places.Side.the-variants.{First, Second}
-use Rattle.cursor.specs.declared.places.Place.{Place}
 use Rattle.cursor.specs.declared.places.Cursor.{Cursor}
 use Rattle.cursor.specs.declared.places.Cursor.the-variants.{Nowhere, On}
 
