@@ -1,18 +1,17 @@
 -- What the layers above use of a table, as laws over its definitions.
 use Prim.Native.Nat.{ℕ, zero, suc, _+_, _≤_}
 use native.Mathlib.Omega.{arith}
-use native.Mathlib.Nat.{le-refl}
 use mathlib.Core.Path.{_≡_, refl, sym, ap, _∙_}
-use mathlib.Core.Logic.{_⊎_, inl, inr, ⊎-elim}
-use mathlib.Core.List.{List, [], _∷_, _++_, List·Memᴰ, List·Memᴰ·not-nil, List·Memᴰ·cases-cons}
-use mathlib.Core.Bool.{Bool, true, false, not}
+use mathlib.Core.Logic.{_⊎_, inl, inr}
+use mathlib.Core.List.{List, [], _∷_, List·Memᴰ, List·Memᴰ·not-nil, List·Memᴰ·cases-cons}
+use mathlib.Core.Bool.{true}
 use lib.ListN.{length, length-append}
 use lib.Dec.{leb}
 use borrow.Author.Tests.{leb-true}
-use Rattle.rule.specs.Lists.{both, Maybe, none, some, Pairwise}
+use Rattle.rule.specs.Lists.{Maybe, none, some, Pairwise}
 use Rattle.rule.specs.Order.{less, isLess}
 use Rattle.rule.specs.Entries.{Entry, order}
-use Rattle.rule.specs.Moves.{Move, first, seek, next, previous, target, best}
+use Rattle.rule.specs.Moves.{first, seek, next, previous, target, best}
 use Rattle.rule.proofs.Lists.{both-true}
 use Rattle.rule.proofs.Order.{entries-less-number}
 use Rattle.image.specs.Limits.{levels, maxNodes, maxNumber, maxKey}
@@ -20,13 +19,12 @@ use Rattle.image.specs.Nodes.{count, entryOf}
 use Rattle.image.specs.Sound.{Sound, headerHolds, held, heldUpTo}
 use Rattle.image.specs.Search.{toStop, searched, standing, looksOf}
 use Rattle.image.specs.Lookup.{Lookup, saidAt, get}
-use Rattle.image.specs.Refusals.{Answer, refused, given, badImage, badNumber, longKey}
+use Rattle.image.specs.Refusals.{Answer, given, badImage, badNumber, longKey}
 use Rattle.image.specs.EntryMoves.{on, inTable, numberView}
 use Rattle.image.specs.Meaning.{IsNode}
 use Rattle.image.specs.Cuts.{Cut, all, from, above, below, cmpOf, admits, pastOf}
 use Rattle.image.proofs.Refusals.{demand-given, reading-given}
 use Rattle.image.proofs.Search.{searched-looks}
-use Rattle.image.specs.Add.{Grown, add}
 use Rattle.image.proofs.Add.{add-added}
 use Rattle.image.proofs.Sound.{header-sound, everywhere}
 use Rattle.image.proofs.Held.{held-has}
