@@ -1,7 +1,7 @@
-pub mod Laws
 pub mod Merging
 pub mod Walks
 pub mod Moves
 pub mod Rows
 pub mod Pairs
 pub mod Unique
+pub mod Growth

@@ -1,37 +1,34 @@
 -- The answers of two tables folded into one.
 use Prim.Native.Nat.{ℕ, _≤_, _<_}
 use native.Mathlib.Omega.{arith}
-use mathlib.Core.Path.{_≡_, refl, sym, ap, subst, _∙_}
-use mathlib.Core.Logic.{_⊎_, inl, inr}
-use mathlib.Core.List.{List, _++_}
+use mathlib.Core.Path.{_≡_, refl, subst, _∙_}
+use mathlib.Core.Logic.{inl, inr}
+use mathlib.Core.List.{List}
 use mathlib.Core.Bool.{Bool, true, false, false≢true}
 use lib.Dec.{ltb}
-use borrow.Author.Tests.{ltb-true, ltb-false, lt-ltb, le-ltb}
+use borrow.Author.Tests.{ltb-true, lt-ltb, le-ltb}
 use Rattle.rule.specs.Lists.{cond, Maybe, none, some, All}
 use Rattle.rule.specs.Order.{isLess}
 use Rattle.rule.specs.Entries.{Entry}
-use Rattle.rule.specs.Rows.{fits, newest}
+use Rattle.rule.specs.Rows.{newest}
 use Rattle.rule.specs.Nearest.{HasKey, Least, sooner}
 use Rattle.rule.proofs.Lists.{all-nil}
 use Rattle.rule.proofs.Order.{neither-less}
 use Rattle.rule.proofs.Rows.{Newest as NewestOf, newest-is, newest-append, latest, fits-true}
 use Rattle.rule.proofs.Nearest.{least-append}
-use Rattle.image.specs.Nodes.{entryOf}
 use Rattle.image.specs.Sound.{Sound, held}
-use Rattle.image.specs.EntryMoves.{on, viewed, keyView, numberView}
 use Rattle.image.specs.Meaning.{IsNode}
 use Rattle.image.specs.Cuts.{Cut, cmpOf, admits}
 use Rattle.image.proofs.Nearest.{way}
 use Rattle.image.proofs.Views.{key-shown}
-use Rattle.table.specs.EntryViews.{shownNumber}
 use Rattle.table.specs.Questions.{Nears, TellsNewest}
 use Rattle.table.specs.declared.questions.Hit.{Hit}
 use Rattle.table.specs.declared.questions.Hit.the-variants as hit
 use Rattle.table.specs.declared.questions.NewestAt.{NewestAt}
 use Rattle.table.specs.declared.questions.NewestAt.the-variants as newestAt
-use Rattle.cursor.proofs.Laws.{number-told}
+use Rattle.table.proofs.Laws.{number-told}
 use Rattle.cursor.specs.Places.{imageOf, earlier, all, place, entryAt, keyAt, numberAt, PlaceIn}
-use Rattle.cursor.specs.Merging.{metAt, metIn, nearerOf, soonerOf, MetIn, NearestOver, NearestIs, versionIn, newerOf, NewestAmong, NewestOver, NewestIs}
+use Rattle.cursor.specs.Merging.{metAt, metIn, nearerOf, soonerOf, MetIn, MeetingIn, NearestOver, NearestIs, versionIn, newerOf, NewestOver, NewestIs}
 use Rattle.cursor.specs.declared.places.Side.{Side}
 use Rattle.cursor.specs.declared.places.Side.the-variants.{First, Second}
 use Rattle.cursor.specs.declared.places.Place.{Place}
@@ -43,20 +40,6 @@ use Rattle.cursor.specs.declared.merging_iter.Newest.{Newest}
 use Rattle.cursor.specs.declared.merging_iter.Newest.the-variants as newer
 
 -- ---- what stands at a place
-
-module _ (f g : List ℕ) (p : Place) where
-  -- by its table
-  pub key-first : {k : List ℕ} → p .table ≡ First → k ≡ viewed f (keyView f (on (p .node))) → k ≡ keyAt f g p
-  key-first e h = rw e h
-
-  pub key-second : {k : List ℕ} → p .table ≡ Second → k ≡ viewed g (keyView g (on (p .node))) → k ≡ keyAt f g p
-  key-second e h = rw e h
-
-  pub number-first : {n : ℕ} → p .table ≡ First → n ≡ shownNumber (numberView f (on (p .node))) → n ≡ numberAt f g p
-  number-first e h = rw e h
-
-  pub number-second : {n : ℕ} → p .table ≡ Second → n ≡ shownNumber (numberView g (on (p .node))) → n ≡ numberAt f g p
-  number-second e h = rw e h
 
 -- on sound tables it is the entry
 module _ (f g : List ℕ) (x : Sound f) (y : Sound g) where
@@ -73,28 +56,31 @@ module _ (f g : List ℕ) (x : Sound f) (y : Sound g) where
 -- ---- the key that comes next
 
 module _ (f g : List ℕ) (c : Cut) (t : List ℕ) where
-  -- one table's answer
-  met-first : {r : Nearest} (a : Hit) → Nears f c t a → r ≡ metIn First a → NearestOver (held f) f g c t r
-  met-first a n e = rw e (go a n)
-    where
-      go : (a : Hit) → Nears f c t a → NearestOver (held f) f g c t (metIn First a)
-      go (hit.At i) n = record {
-        rule = λ x y. let l : Least (cmpOf c) (admits c t) (held f) (some (keyAt f g (place First i))) = rw (key-shown f x i (n .range)) (n .rule x .1) in (l, record { in-first = λ _. l .0; in-second = λ z. absurd (false≢true z) });
-        range = record { inside = n .range; somewhere = inl refl };
-      }
-      go hit.Nothing n = record { rule = λ x y. n .rule x; range = tt }
-      go hit.Damaged n = record { rule = λ x y. n .rule x; range = tt }
+  -- a key met in one table
+  met-flags : (side : Side) (i : ℕ) {k : List ℕ} → HasKey k (held (imageOf side f g)) → MetIn f g k (metAt side i)
+  met-flags First i h = record { in-first = λ _. h; in-second = λ z. absurd (false≢true z) }
+  met-flags Second i h = record { in-first = λ z. absurd (false≢true z); in-second = λ _. h }
 
-  met-second : {r : Nearest} (a : Hit) → Nears g c t a → r ≡ metIn Second a → NearestOver (held g) f g c t r
-  met-second a n e = rw e (go a n)
+  met-range : (side : Side) (i : ℕ) → IsNode (imageOf side f g) i → MeetingIn f g (metAt side i)
+  met-range First i n = record { inside = n; somewhere = inl refl }
+  met-range Second i n = record { inside = n; somewhere = inr refl }
+
+  met-place : (side : Side) (i : ℕ) → place side i ≡ metAt side i .place
+  met-place First i = refl
+  met-place Second i = refl
+
+  -- one table's answer
+  met-over : (side : Side) {r : Nearest} (a : Hit) → Nears (imageOf side f g) c t a → r ≡ metIn side a → NearestOver (held (imageOf side f g)) f g c t r
+  met-over side a n e = rw e (go a n)
     where
-      go : (a : Hit) → Nears g c t a → NearestOver (held g) f g c t (metIn Second a)
+      go : (a : Hit) → Nears (imageOf side f g) c t a → NearestOver (held (imageOf side f g)) f g c t (metIn side a)
       go (hit.At i) n = record {
-        rule = λ x y. let l : Least (cmpOf c) (admits c t) (held g) (some (keyAt f g (place Second i))) = rw (key-shown g y i (n .range)) (n .rule y .1) in (l, record { in-first = λ z. absurd (false≢true z); in-second = λ _. l .0 });
-        range = record { inside = n .range; somewhere = inr refl };
+        rule = λ x y. subst (λ (p : Place). Least (cmpOf c) (admits c t) (held (imageOf side f g)) (some (keyAt f g p)) × MetIn f g (keyAt f g p) (metAt side i)) (met-place side i)
+            (let l : Least (cmpOf c) (admits c t) (held (imageOf side f g)) (some (keyAt f g (place side i))) = rw (key-told f g x y (place side i) (n .range)) (n .rule (sound-of f g x y side) .1) in (l, met-flags side i (l .0)));
+        range = met-range side i (n .range);
       }
-      go hit.Nothing n = record { rule = λ x y. n .rule y; range = tt }
-      go hit.Damaged n = record { rule = λ x y. n .rule y; range = tt }
+      go hit.Nothing n = record { rule = λ x y. n .rule (sound-of f g x y side); range = tt }
+      go hit.Damaged n = record { rule = λ x y. n .rule (sound-of f g x y side); range = tt }
 
   join : (a b : Maybe (List ℕ)) → Least (cmpOf c) (admits c t) (held f) a → Least (cmpOf c) (admits c t) (held g) b → Least (cmpOf c) (admits c t) (all f g) (sooner (cmpOf c) a b)
   join a b = least-append (cmpOf c) (way c) (admits c t) (held f) (held g) a b
@@ -131,7 +117,7 @@ module _ (f g : List ℕ) (c : Cut) (t : List ℕ) where
       go (nearest.At m) (nearest.At n) x y = nearer-over m n x y
 
   pub nearest-both : {p q r : Nearest} (a b : Hit) → Nears f c t a → p ≡ metIn First a → Nears g c t b → q ≡ metIn Second b → r ≡ soonerOf (keyAt f g) c p q → NearestIs f g c t r
-  nearest-both {p} {q} a b x d y e h = sooner-over p q (met-first a x d) (met-second b y e) h
+  nearest-both {p} {q} a b x d y e h = sooner-over p q (met-over First a x d) (met-over Second b y e) h
 
 -- the nearer by cases
 module _ (key : Place → List ℕ) (c : Cut) (x y : Meeting) {k l : List ℕ} {b : Bool} (ek : k ≡ key (x .place)) (el : l ≡ key (y .place)) (eb : b ≡ isLess (cmpOf c l k)) where
@@ -172,23 +158,14 @@ before-second f P side e h = rw e h
 
 module _ (f g : List ℕ) (k : List ℕ) (s : ℕ) where
   -- one table's answer
-  version-first : {r : Newest} (a : NewestAt) → TellsNewest f k s a → r ≡ versionIn First a → NewestOver (held f) f g k s r
-  version-first a n e = rw e (go a n)
+  version-over : (side : Side) {r : Newest} (a : NewestAt) → TellsNewest (imageOf side f g) k s a → r ≡ versionIn side a → NewestOver (held (imageOf side f g)) f g k s r
+  version-over side a n e = rw e (go a n)
     where
-      go : (a : NewestAt) → TellsNewest f k s a → NewestOver (held f) f g k s (versionIn First a)
-      go (newestAt.Value i) n = record { rule = λ x y. (n .rule x .newest-is, n .rule x .kind-is); range = n .range }
-      go (newestAt.Deletion i) n = record { rule = λ x y. (n .rule x .newest-is, n .rule x .kind-is); range = n .range }
-      go newestAt.Absent n = record { rule = λ x y. n .rule x; range = tt }
-      go newestAt.Damaged n = record { rule = λ x y. n .rule x; range = tt }
-
-  version-second : {r : Newest} (a : NewestAt) → TellsNewest g k s a → r ≡ versionIn Second a → NewestOver (held g) f g k s r
-  version-second a n e = rw e (go a n)
-    where
-      go : (a : NewestAt) → TellsNewest g k s a → NewestOver (held g) f g k s (versionIn Second a)
-      go (newestAt.Value i) n = record { rule = λ x y. (n .rule y .newest-is, n .rule y .kind-is); range = n .range }
-      go (newestAt.Deletion i) n = record { rule = λ x y. (n .rule y .newest-is, n .rule y .kind-is); range = n .range }
-      go newestAt.Absent n = record { rule = λ x y. n .rule y; range = tt }
-      go newestAt.Damaged n = record { rule = λ x y. n .rule y; range = tt }
+      go : (a : NewestAt) → TellsNewest (imageOf side f g) k s a → NewestOver (held (imageOf side f g)) f g k s (versionIn side a)
+      go (newestAt.Value i) n = record { rule = λ x y. let o = n .rule (sound-of f g x y side) in (o .newest-is, o .kind-is); range = n .range }
+      go (newestAt.Deletion i) n = record { rule = λ x y. let o = n .rule (sound-of f g x y side) in (o .newest-is, o .kind-is); range = n .range }
+      go newestAt.Absent n = record { rule = λ x y. n .rule (sound-of f g x y side); range = tt }
+      go newestAt.Damaged n = record { rule = λ x y. n .rule (sound-of f g x y side); range = tt }
 
   together : (a b : Maybe Entry) → newest k s (held f) ≡ a → newest k s (held g) ≡ b → newest k s (all f g) ≡ latest a b
   together a b x y = newest-append k s (held f) (held g) ∙ rw (x, y)
@@ -237,7 +214,7 @@ module _ (f g : List ℕ) (k : List ℕ) (s : ℕ) where
       go (newer.At v) (newer.At w) x y p q = newer-at v w x y p q
 
   pub newest-both : {p q r : Newest} (a b : NewestAt) → TellsNewest f k s a → p ≡ versionIn First a → TellsNewest g k s b → q ≡ versionIn Second b → r ≡ newerOf (numberAt f g) p q → NewestIs f g k s r
-  newest-both {p} {q} a b x d y e h = newer-over p q (version-first a x d) (version-second b y e) (on-side First a d) (on-side Second b e) h
+  newest-both {p} {q} a b x d y e h = newer-over p q (version-over First a x d) (version-over Second b y e) (on-side First a d) (on-side Second b e) h
 
 -- the newer by cases
 module _ (number : Place → ℕ) (x y : Version) {m n : ℕ} (em : m ≡ number (x .place)) (en : n ≡ number (y .place)) where

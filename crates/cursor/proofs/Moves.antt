@@ -12,24 +12,23 @@ use Rattle.rule.specs.Moves.{Move, target}
 use Rattle.rule.specs.Moves as rule
 use Rattle.image.specs.Limits.{maxKey, maxNumber}
 use Rattle.image.specs.Sound.{Sound, headerHolds}
-use Rattle.image.specs.EntryMoves.{on, inTable}
+use Rattle.image.specs.EntryMoves.{on}
 use Rattle.image.specs.Cuts.{Cut}
 use Rattle.image.specs.Cuts as cut
 use Rattle.image.specs.Refusals as is
-use Rattle.image.specs.Refusals.{Answer, given, demand, badImage, noNode, badNumber, longKey}
+use Rattle.image.specs.Refusals.{Answer, given, badImage, noNode}
 use Rattle.image.proofs.Refusals.{refused-given, demand-given}
 use Rattle.image.proofs.Views.{view-accepted}
-use Rattle.table.specs.Refusals.{refusalIs}
 use Rattle.table.specs.MemtableIter.{Tested}
 use Rattle.table.specs.declared.refusals.Refusal.{Refusal}
 use Rattle.table.specs.declared.refusals.Refusal.the-variants as refusal
 use Rattle.table.specs.declared.memtable_iter.CursorTest.{CursorTest}
 use Rattle.table.specs.declared.memtable_iter.CursorTest.the-variants as test
-use Rattle.cursor.proofs.Laws.{in-table, first-behind, seek-behind, next-behind, next-nowhere, previous-behind}
+use Rattle.table.proofs.Laws.{in-table, first-behind, seek-behind, next-behind, next-nowhere, previous-behind}
 use Rattle.cursor.proofs.Merging.{sound-of, key-told}
-use Rattle.cursor.specs.Places.{imageOf, all, entryAt, keyAt, PlaceIn, CursorIn, HeadersHold, inside, refusalAt}
+use Rattle.cursor.specs.Places.{imageOf, all, entryAt, keyAt, CursorIn, HeadersHold, inside, refusalAt}
 use Rattle.cursor.specs.Walks.{bestOf, Ends, FoundIn, Walked}
-use Rattle.cursor.specs.Moves.{asked, testAs, keyGiven, startKey, movedOf, LeadsTo, RefusedWith, MovedIn, Went, WentFrom, Moves}
+use Rattle.cursor.specs.Moves.{asked, testAs, keyGiven, startKey, movedOf, LeadsTo, MovedIn, Went, WentFrom, Moves}
 use Rattle.cursor.specs.declared.places.Side.{Side}
 use Rattle.cursor.specs.declared.places.Side.the-variants.{First, Second}
 use Rattle.cursor.specs.declared.places.Place.{Place}
@@ -45,12 +44,6 @@ use Rattle.cursor.specs.declared.db_iter.MoveTest.the-variants.{Passed, 
 -- ---- the test of a cursor
 
 module _ (f g : List ℕ) (p : Place) where
-  pub tested-first : (t : CursorTest) → p .table ≡ First → Tested f (on (p .node)) t → Tested (imageOf (p .table) f g) (on (p .node)) t
-  tested-first t e h = rw e h
-
-  pub tested-second : (t : CursorTest) → p .table ≡ Second → Tested g (on (p .node)) t → Tested (imageOf (p .table) f g) (on (p .node)) t
-  tested-second t e h = rw e h
-
   header-of : HeadersHold f g → (side : Side) → headerHolds (imageOf side f g) ≡ true
   header-of h First = h .first
   header-of h Second = h .second

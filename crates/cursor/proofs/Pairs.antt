@@ -1,8 +1,8 @@
 -- Lookup in a pair of tables.
-use Prim.Native.Nat.{ℕ, _+_, _≤_, _<_}
+use Prim.Native.Nat.{ℕ, _+_, _≤_}
 use native.Mathlib.Omega.{arith}
-use mathlib.Core.Path.{_≡_, refl, sym, ap, _∙_}
-use mathlib.Core.Logic.{_⊎_, inl, inr}
+use mathlib.Core.Path.{_≡_, refl, sym, _∙_}
+use mathlib.Core.Logic.{inl, inr}
 use mathlib.Core.List.{List}
 use mathlib.Core.Bool.{Bool, true, false, not}
 use lib.ListN.{length}
@@ -11,21 +11,20 @@ use Rattle.rule.specs.Lists.{cond}
 use Rattle.image.specs.Limits.{maxKey, maxNumber, maxNodes, levels}
 use Rattle.image.specs.Nodes.{count}
 use Rattle.image.specs.Sound.{Sound, headerHolds}
-use Rattle.image.specs.Refusals.{Answer, refused, given, badImage}
+use Rattle.image.specs.Refusals.{Answer, refused, given}
 use Rattle.image.specs.Lookup.{Looked, Lookup, get}
 use Rattle.image.specs.Lookup as one
 use Rattle.image.specs.Meaning.{Tells}
 use Rattle.image.proofs.Sound.{header-complete}
 use Rattle.image.proofs.Lookup.{get-tells}
-use Rattle.table.specs.Refusals.{refusalIs}
 use Rattle.table.specs.Memtable.{lookupAs, Gets}
 use Rattle.table.specs.declared.refusals.Refusal.{Refusal}
 use Rattle.table.specs.declared.refusals.Refusal.the-variants as refusal
 use Rattle.table.specs.declared.memtable.Lookup.{Lookup as LookupHere}
 use Rattle.table.specs.declared.memtable.Lookup.the-variants as lookup
-use Rattle.cursor.proofs.Laws.{get-looks}
+use Rattle.table.proofs.Laws.{get-looks}
 use Rattle.cursor.specs.Places.{place}
-use Rattle.cursor.specs.Pairs.{PairSays, PairLooked, pairAs, saysIn, toldBy, isSaid, answersOf, looksTaken, FewLooks, firstOrSecond, getPair, TellsPair, GetsPair}
+use Rattle.cursor.specs.Pairs.{PairLooked, pairAs, saysIn, toldBy, isSaid, answersOf, looksTaken, FewLooks, getPair, TellsPair, GetsPair}
 use Rattle.cursor.specs.declared.places.Side.{Side}
 use Rattle.cursor.specs.declared.places.Side.the-variants.{First, Second}
 use Rattle.cursor.specs.declared.merging_iter.PairLookup.{PairLookup}

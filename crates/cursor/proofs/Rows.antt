@@ -1,21 +1,17 @@
 -- The views at the visible cursor.
 use Prim.Native.Nat.{ℕ}
-use mathlib.Core.Path.{_≡_, refl, sym, ap, _∙_}
+use mathlib.Core.Path.{_≡_, refl, _∙_}
 use mathlib.Core.List.{List, []}
 use mathlib.Core.Bool.{Bool, true, false, not}
 use borrow.Author.Tests.{not-true, not-false}
 use Rattle.rule.specs.Lists.{cond, both}
-use Rattle.rule.specs.Entries.{Entry}
 use Rattle.image.specs.Sound.{Sound, headerHolds}
 use Rattle.image.specs.Refusals.{numberOf, badImage}
-use Rattle.image.specs.EntryMoves.{on, viewed, valueView}
 use Rattle.image.proofs.Sound.{header-complete}
 use Rattle.image.proofs.Views.{value-shown, view-accepted}
 use Rattle.cursor.proofs.Merging.{sound-of, key-told}
 use Rattle.cursor.specs.Places.{imageOf, entryAt, keyAt, valueAt, refusalAt, PlaceIn, CursorIn}
 use Rattle.cursor.specs.Rows.{shownOn, valueIn, entryShown, ShowsKey, ShowsValue, refusalOn, Refuses}
-use Rattle.cursor.specs.declared.places.Side.{Side}
-use Rattle.cursor.specs.declared.places.Side.the-variants.{First, Second}
 use Rattle.cursor.specs.declared.places.Place.{Place}
 use Rattle.cursor.specs.declared.places.Cursor.{Cursor}
 use Rattle.cursor.specs.declared.places.Cursor.the-variants.{Nowhere, On}
@@ -25,12 +21,6 @@ headers-bad f g {a} e h = rw (← e, not-true a h)
 
 pub headers-second : (f g : List ℕ) {a b : Bool} → a ≡ headerHolds f → not a ≡ false → b ≡ headerHolds g → b ≡ both (headerHolds f) (headerHolds g)
 headers-second f g {a} e h d = rw (← e, not-false a h) d
-
-pub value-first : (f g : List ℕ) (p : Place) {v : List ℕ} → p .table ≡ First → v ≡ viewed f (valueView f (on (p .node))) → v ≡ valueAt f g p
-value-first f g p e h = rw e h
-
-pub value-second : (f g : List ℕ) (p : Place) {v : List ℕ} → p .table ≡ Second → v ≡ viewed g (valueView g (on (p .node))) → v ≡ valueAt f g p
-value-second f g p e h = rw e h
 
 -- ---- on sound tables
 

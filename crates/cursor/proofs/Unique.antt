@@ -1,5 +1,5 @@
 -- Two answers that a promise allows are one: of the moves on sound tables, of the pair lookup and the views on any bytes.
-use Prim.Native.Nat.{ℕ, _<_}
+use Prim.Native.Nat.{ℕ}
 use native.Mathlib.Omega.{arith}
 use mathlib.Core.Path.{_≡_, refl, sym, ap, _∙_}
 use mathlib.Core.List.{List}
@@ -13,9 +13,9 @@ use Rattle.image.specs.Sound.{Sound}
 use Rattle.image.specs.Meaning.{IsNode}
 use Rattle.image.specs.Refusals as is
 use Rattle.image.specs.Refusals.{Answer, refused, given}
-use Rattle.table.specs.Refusals.{refusalIs}
 use Rattle.table.specs.declared.refusals.Refusal.{Refusal}
-use Rattle.cursor.proofs.Laws.{node-held, node-single, refusalFrom, refusal-back}
+use Rattle.table.proofs.Laws.{node-held, node-single}
+use Rattle.table.proofs.OneAnswer.{refusalFrom, refusal-back}
 use Rattle.cursor.proofs.Merging.{known}
 use Rattle.cursor.specs.Places.{all, place, entryAt}
 use Rattle.cursor.specs.Walks.{Gives}

@@ -5,13 +5,13 @@ use mathlib.Core.Path.{_≡_, refl, sym, ap, subst, _∙_}
 use mathlib.Core.Logic.{_⊎_, inl, inr, ⊎-elim}
 use mathlib.Core.List.{List}
 use mathlib.Core.Bool.{Bool, true, false}
-use lib.Dec.{ltb, eqb}
+use lib.Dec.{ltb}
 use lib.ListN.{length}
 use borrow.Author.Tests.{lt-ltb, le-ltb, ltb-true, ltb-false, ne-eqb}
 use Rattle.rule.specs.Lists.{cond, Maybe, none, some, isSome}
 use Rattle.rule.specs.Order.{isLess}
 use Rattle.rule.specs.Entries.{Entry, valueKind, deletionKind}
-use Rattle.rule.specs.Rows.{newest, shown, row}
+use Rattle.rule.specs.Rows.{shown, row}
 use Rattle.rule.specs.Moves.{best}
 use Rattle.rule.specs.Nearest.{HasKey, Least, remaining}
 use Rattle.rule.proofs.Nearest.{best-end, best-done, best-past, remaining-length, remaining-mono, remaining-less}
@@ -19,11 +19,10 @@ use Rattle.image.specs.Sound.{Sound, held}
 use Rattle.image.specs.Cuts.{Cut, cmpOf, admits, pastOf}
 use Rattle.image.proofs.Nearest.{way, onward, past-way, past-admits}
 use Rattle.table.specs.Questions.{nodesOf}
-use Rattle.table.proofs.Asking.{nodes-sound}
-use Rattle.cursor.proofs.Laws.{held-length, past-past}
+use Rattle.table.proofs.Laws.{held-length, nodes-sound, past-past}
 use Rattle.cursor.specs.Places.{all, entryAt, keyAt}
-use Rattle.cursor.specs.Merging.{MetIn, NearestIs, NewestIs, kindOf}
-use Rattle.cursor.specs.Walks.{Gives, StepRule, Stepped, cutFrom, keyFrom, tickOf, spentOf, bestOf, Ends, Walked}
+use Rattle.cursor.specs.Merging.{NearestIs, NewestIs}
+use Rattle.cursor.specs.Walks.{StepRule, Stepped, cutFrom, keyFrom, tickOf, spentOf, bestOf, Ends, Walked}
 use Rattle.cursor.specs.declared.places.Place.{Place}
 use Rattle.cursor.specs.declared.merging_iter.Meeting.{Meeting}
 use Rattle.cursor.specs.declared.merging_iter.Nearest.the-variants as nearest
@@ -33,7 +32,6 @@ use Rattle.cursor.specs.declared.walk.Step.the-variants as step
 use Rattle.cursor.specs.declared.walk.Reached.{Reached}
 use Rattle.cursor.specs.declared.walk.Reached.the-variants.{Start, Past}
 use Rattle.cursor.specs.declared.walk.Left.{Left}
-use Rattle.cursor.specs.declared.walk.Spent.{Spent}
 use Rattle.cursor.specs.declared.walk.Spent.the-variants.{Rest, Over}
 use Rattle.cursor.specs.declared.walk.Found.{Found}
 use Rattle.cursor.specs.declared.walk.Found.the-variants as found

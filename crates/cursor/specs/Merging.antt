@@ -5,7 +5,7 @@ use mathlib.Core.Logic.{_⊎_}
 use mathlib.Core.List.{List}
 use mathlib.Core.Bool.{Bool, true, false}
 use lib.Dec.{ltb}
-use Rattle.rule.specs.Lists.{cond, Maybe, none, some, All}
+use Rattle.rule.specs.Lists.{cond, none, some, All}
 use Rattle.rule.specs.Order.{isLess}
 use Rattle.rule.specs.Entries.{Entry, valueKind, deletionKind}
 use Rattle.rule.specs.Rows.{fits, newest}
@@ -16,14 +16,13 @@ use Rattle.table.specs.declared.questions.Hit.{Hit}
 use Rattle.table.specs.declared.questions.Hit.the-variants as hit
 use Rattle.table.specs.declared.questions.NewestAt.{NewestAt}
 use Rattle.table.specs.declared.questions.NewestAt.the-variants as newestAt
-use Rattle.cursor.specs.Places.{imageOf, all, earlier, place, entryAt, keyAt, PlaceIn}
+use Rattle.cursor.specs.Places.{all, earlier, place, entryAt, keyAt, PlaceIn}
 use Rattle.cursor.specs.declared.places.Side.{Side}
 use Rattle.cursor.specs.declared.places.Side.the-variants.{First, Second}
 use Rattle.cursor.specs.declared.places.Place.{Place}
 use Rattle.cursor.specs.declared.merging_iter.Meeting.{Meeting}
 use Rattle.cursor.specs.declared.merging_iter.Nearest.{Nearest}
 use Rattle.cursor.specs.declared.merging_iter.Nearest.the-variants as nearest
-use Rattle.cursor.specs.declared.merging_iter.Version.{Version}
 use Rattle.cursor.specs.declared.merging_iter.Newest.{Newest}
 use Rattle.cursor.specs.declared.merging_iter.Newest.the-variants as newer
 

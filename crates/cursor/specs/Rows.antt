@@ -2,7 +2,6 @@
 use Prim.Native.Nat.{ℕ}
 use mathlib.Core.Path.{_≡_}
 use mathlib.Core.List.{List, []}
-use mathlib.Core.Bool.{Bool}
 use lib.Dec.{eqb}
 use Rattle.rule.specs.Lists.{cond, both}
 use Rattle.rule.specs.Entries.{Entry, valueKind}

@@ -57,7 +57,7 @@ fn is_inside(first: &[u8], second: &[u8], at: Cursor) -> bool
 }
 
 // Whether the arguments of a move pass, or the first refusal that they get.
-pub enum MoveTest {
+pub(crate) enum MoveTest {
     Passed,
     Failed(Refusal),
 }

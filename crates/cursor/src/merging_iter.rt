@@ -22,14 +22,14 @@ use table::questions::newest;
 use table::refusals::Refusal;
 
 // A key that comes next: a place that has it, and which of the tables it is the nearest key of.
-pub struct Meeting {
+pub(crate) struct Meeting {
     pub place: Place,
     pub first: bool,
     pub second: bool,
 }
 
 // The key that comes next behind a cut, or that there is none.
-pub enum Nearest {
+pub(crate) enum Nearest {
     At(Meeting),
     Nothing,
     Damaged,
@@ -106,7 +106,7 @@ fn sooner<'a>(first: &'a [u8], second: &'a [u8], cut: Cut, a: Nearest, b: Neares
 }
 
 // The key that comes next behind a cut, over both tables.
-pub fn nearest_key<'a>(first: &'a [u8], second: &'a [u8], cut: Cut, key: &[u8]) -> Nearest
+pub(crate) fn nearest_key<'a>(first: &'a [u8], second: &'a [u8], cut: Cut, key: &[u8]) -> Nearest
     ensures { λ r. ⌜ NearestIs (now (first .entry)) (now (second .entry)) (cutOf cut) (now (key .entry)) r ⌝ }
 {
     let a = met_in(Side::First, near(first, cut, key));
@@ -115,13 +115,13 @@ pub fn nearest_key<'a>(first: &'a [u8], second: &'a [u8], cut: Cut, key: &[u8]) 
 }
 
 // An entry of a key: its place, and whether it is a value.
-pub struct Version {
+pub(crate) struct Version {
     pub place: Place,
     pub value: bool,
 }
 
 // The newest entry of a key, or that there is none.
-pub enum Newest {
+pub(crate) enum Newest {
     At(Version),
     Nothing,
     Damaged,
@@ -166,7 +166,7 @@ fn newer(first: &[u8], second: &[u8], a: Newest, b: Newest) -> Newest
 }
 
 // The newest entry of a key up to a snapshot, over both tables.
-pub fn newest_entry(first: &[u8], second: &[u8], key: &[u8], snapshot: u64) -> Newest
+pub(crate) fn newest_entry(first: &[u8], second: &[u8], key: &[u8], snapshot: u64) -> Newest
     ensures { λ r. ⌜ NewestIs (now (first .entry)) (now (second .entry)) (now (key .entry)) snapshot r ⌝ }
 {
     let a = version_in(Side::First, newest(first, key, snapshot));

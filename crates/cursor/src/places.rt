@@ -24,7 +24,7 @@ pub enum Cursor {
 }
 
 // The key at a place, a part of whichever image holds it; of a node that cannot be read it is empty.
-pub fn key_at<'a>(first: &'a [u8], second: &'a [u8], p: Place) -> &'a [u8]
+pub(crate) fn key_at<'a>(first: &'a [u8], second: &'a [u8], p: Place) -> &'a [u8]
     ensures { λ r. ⌜ now r ≡ keyAt (now (first .entry)) (now (second .entry)) p ⌝ }
 {
     let side = p.table;
@@ -36,7 +36,7 @@ pub fn key_at<'a>(first: &'a [u8], second: &'a [u8], p: Place) -> &'a [u8]
 }
 
 // The number at a place; of a node that cannot be read it is 0.
-pub fn number_at(first: &[u8], second: &[u8], p: Place) -> u64
+pub(crate) fn number_at(first: &[u8], second: &[u8], p: Place) -> u64
     ensures { λ r. ⌜ r ≡ numberAt (now (first .entry)) (now (second .entry)) p ⌝ }
 {
     let side = p.table;

@@ -15,7 +15,7 @@ use table::questions::past;
 use table::questions::population;
 
 // A turn of a walk: it ends on a row, passes a key that has none, or finds no more keys.
-pub enum Step {
+pub(crate) enum Step {
     Done(Place),
     Pass(Meeting),
     End,
@@ -47,7 +47,7 @@ fn take_step<'a>(first: &'a [u8], second: &'a [u8], snapshot: u64, cut: Cut, key
 }
 
 // Where a walk has come to: at its start, or past the key of a place.
-pub enum Reached {
+pub(crate) enum Reached {
     Start,
     Past(Place),
 }
@@ -73,13 +73,13 @@ fn take_turn<'a>(
 }
 
 // How many nodes of each table may still be met.
-pub struct Left {
+pub(crate) struct Left {
     pub first: usize,
     pub second: usize,
 }
 
 // What is left after a key is passed, or that a table has been met too often.
-pub enum Spent {
+pub(crate) enum Spent {
     Rest(Left),
     Over,
 }
@@ -113,7 +113,7 @@ fn spend(left: Left, m: Meeting) -> Spent
 }
 
 // The place that a walk ends on, or that there is none.
-pub enum Found {
+pub(crate) enum Found {
     At(Place),
     Nothing,
     Damaged,

@@ -23,6 +23,5 @@ pub mod Lookup
 pub mod EntryMoves
 pub mod Spots
 pub mod Views
-pub mod Stays
 pub mod Nearest
 pub mod Newest

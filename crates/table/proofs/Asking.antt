@@ -5,8 +5,7 @@ use mathlib.Core.List.{List}
 use mathlib.Core.Bool.{Bool, true, false, not}
 use borrow.Author.Tests.{not-true, not-false}
 use Rattle.image.specs.Readers.{got, bad}
-use Rattle.image.specs.Nodes.{count}
-use Rattle.image.specs.Sound.{headerHolds, Sound}
+use Rattle.image.specs.Sound.{headerHolds}
 use Rattle.image.specs.Search.{toStop, Found, searched, standing}
 use Rattle.image.specs.Refusals.{damaged, Answer, refused, given, reading}
 use Rattle.image.specs.Lookup.{Looked, saidAt}
@@ -14,19 +13,13 @@ use Rattle.image.specs.EntryMoves.{Cursor}
 use Rattle.image.specs.Meaning.{Stands}
 use Rattle.image.specs.Cuts.{Cut, nearAt, nearest}
 use Rattle.image.specs.Newest.{NewestAt as NewestAtIs, withNode, newestAt, NewestIn}
-use Rattle.image.proofs.Sound.{header-complete}
 use Rattle.image.proofs.Nearest.{nearest-right, nearest-in}
 use Rattle.image.proofs.Newest.{newest-right, newest-in}
 use Rattle.table.specs.Memtable.{andThen}
-use Rattle.table.specs.Questions.{nodesOf, IfGiven, hitAs, Nears, newestAs, TellsNewest}
+use Rattle.table.specs.Questions.{IfGiven, hitAs, Nears, newestAs, TellsNewest}
 use Rattle.table.specs.declared.questions.Hit.{Hit}
 use Rattle.table.specs.declared.questions.NewestAt.{NewestAt}
 use Rattle.table.proofs.Lookups.{read-on}
-
--- ---- how many nodes
-
-pub nodes-sound : (xs : List ℕ) → Sound xs → nodesOf xs ≡ count xs
-nodes-sound xs s = rw (header-complete xs (s .header))
 
 -- ---- what an answer means follows from what it is
 

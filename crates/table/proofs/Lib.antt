@@ -16,3 +16,4 @@ pub mod Cursors
 pub mod Views
 pub mod Presences
 pub mod OneAnswer
+pub mod Laws

@@ -42,7 +42,7 @@ recovered f back law a b e = sym (law a) ∙ ap back e ∙ law b
 
 -- ---- from the answers of the definitions back to those of the code
 
-refusalFrom : is.Refusal → Refusal
+unfoldable pub refusalFrom : is.Refusal → Refusal
 refusalFrom is.badImage = BadImage
 refusalFrom is.badKind = BadKind
 refusalFrom is.badNumber = BadNumber
@@ -54,7 +54,7 @@ refusalFrom is.duplicate = Duplicate
 refusalFrom is.damaged = Damaged
 refusalFrom is.noNode = NoNode
 
-refusal-back : (q : Refusal) → refusalFrom (refusalIs q) ≡ q
+pub refusal-back : (q : Refusal) → refusalFrom (refusalIs q) ≡ q
 unfolding refusalFrom
 refusal-back BadImage = refl
 refusal-back BadKind = refl

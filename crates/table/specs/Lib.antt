@@ -10,3 +10,4 @@ pub mod Check
 pub mod MemtableIter
 pub mod EntryViews
 pub mod Presence
+pub mod Growth

@@ -1,4 +1,3 @@
-use Rattle.cursor.proofs.Moves.{tested-first, tested-second}
 use borrow.Author.Needs.{needs}
 use Rattle.cursor.proofs.db_iter.test_place.Statement.{statement}
 use Rattle.cursor.proofs.db_iter.test_place.Tie as tie
@@ -24,11 +23,11 @@ test-cursor-requires-2 c κs = search needs
 
 -- src/db_iter.rt:34:1
 returns : tie.Need-returns
-returns c = let a = c .before .before .before .before .before .args in tested-first (a .first .now) (a .second .now) (a .p) (c .test-cursor .result) (c .before .enum-told .given .1) (c .test-cursor .ensures)
+returns c = rw (c .before .enum-told .given .1) (c .test-cursor .ensures)
 
 -- src/db_iter.rt:34:1
 returns-2 : tie.Need-returns-2
-returns-2 c = let a = c .before .before .before .before .before .args in tested-second (a .first .now) (a .second .now) (a .p) (c .test-cursor2 .result) (c .before .enum-told2 .given .1) (c .test-cursor2 .ensures)
+returns-2 c = rw (c .before .enum-told2 .given .1) (c .test-cursor2 .ensures)
 
 pub test-place-spec : {M : Type 1} → statement M
 test-place-spec =

@@ -1,4 +1,3 @@
-use Rattle.cursor.proofs.Merging.{key-first, key-second}
 use borrow.Author.Needs.{needs}
 use Rattle.cursor.proofs.places.key_at.Statement.{statement}
 use Rattle.cursor.proofs.places.key_at.Tie as tie
@@ -24,11 +23,11 @@ entry-key-requires-2 c κs = search needs
 
 -- src/places.rt:27:1
 returns : tie.Need-returns
-returns c = let a = c .before .before .before .before .before .args in key-first (a .first .now) (a .second .now) (a .p) (c .before .enum-told .given .1) (c .entry-key .ensures)
+returns c = rw (c .before .enum-told .given .1) (c .entry-key .ensures)
 
 -- src/places.rt:27:1
 returns-2 : tie.Need-returns-2
-returns-2 c = let a = c .before .before .before .before .before .args in key-second (a .first .now) (a .second .now) (a .p) (c .before .enum-told2 .given .1) (c .entry-key2 .ensures)
+returns-2 c = rw (c .before .enum-told2 .given .1) (c .entry-key2 .ensures)
 
 pub key-at-spec : {M : Type 1} → statement M
 key-at-spec =

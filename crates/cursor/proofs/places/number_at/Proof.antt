@@ -1,4 +1,3 @@
-use Rattle.cursor.proofs.Merging.{number-first, number-second}
 use borrow.Author.Needs.{needs}
 use Rattle.cursor.proofs.places.number_at.Statement.{statement}
 use Rattle.cursor.proofs.places.number_at.Tie as tie
@@ -24,11 +23,11 @@ entry-number-requires-2 c κs = search needs
 
 -- src/places.rt:39:1
 returns : tie.Need-returns
-returns c = let a = c .before .before .before .before .before .args in number-first (a .first .now) (a .second .now) (a .p) (c .before .enum-told .given .1) (c .entry-number .ensures)
+returns c = rw (c .before .enum-told .given .1) (c .entry-number .ensures)
 
 -- src/places.rt:39:1
 returns-2 : tie.Need-returns-2
-returns-2 c = let a = c .before .before .before .before .before .args in number-second (a .first .now) (a .second .now) (a .p) (c .before .enum-told2 .given .1) (c .entry-number2 .ensures)
+returns-2 c = rw (c .before .enum-told2 .given .1) (c .entry-number2 .ensures)
 
 pub number-at-spec : {M : Type 1} → statement M
 number-at-spec =

@@ -1,4 +1,3 @@
-use Rattle.cursor.proofs.Rows.{value-first, value-second}
 use borrow.Author.Needs.{needs}
 use Rattle.cursor.proofs.row_views.value_at.Statement.{statement}
 use Rattle.cursor.proofs.row_views.value_at.Tie as tie
@@ -24,11 +23,11 @@ entry-value-requires-2 c κs = search needs
 
 -- src/row_views.rt:29:1
 returns : tie.Need-returns
-returns c = let a = c .before .before .before .before .before .args in value-first (a .first .now) (a .second .now) (a .p) (c .before .enum-told .given .1) (c .entry-value .ensures)
+returns c = rw (c .before .enum-told .given .1) (c .entry-value .ensures)
 
 -- src/row_views.rt:29:1
 returns-2 : tie.Need-returns-2
-returns-2 c = let a = c .before .before .before .before .before .args in value-second (a .first .now) (a .second .now) (a .p) (c .before .enum-told2 .given .1) (c .entry-value2 .ensures)
+returns-2 c = rw (c .before .enum-told2 .given .1) (c .entry-value2 .ensures)
 
 pub value-at-spec : {M : Type 1} → statement M
 value-at-spec =

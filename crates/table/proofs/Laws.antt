@@ -1,18 +1,17 @@
 -- What the layers above use of a table, as laws over its definitions.
 use Prim.Native.Nat.{ℕ, zero, suc, _+_, _≤_}
 use native.Mathlib.Omega.{arith}
-use native.Mathlib.Nat.{le-refl}
 use mathlib.Core.Path.{_≡_, refl, sym, ap, _∙_}
-use mathlib.Core.Logic.{_⊎_, inl, inr, ⊎-elim}
-use mathlib.Core.List.{List, [], _∷_, _++_, List·Memᴰ, List·Memᴰ·not-nil, List·Memᴰ·cases-cons}
-use mathlib.Core.Bool.{Bool, true, false, not}
+use mathlib.Core.Logic.{_⊎_, inl, inr}
+use mathlib.Core.List.{List, [], _∷_, List·Memᴰ, List·Memᴰ·not-nil, List·Memᴰ·cases-cons}
+use mathlib.Core.Bool.{true}
 use lib.ListN.{length, length-append}
 use lib.Dec.{leb}
 use borrow.Author.Tests.{leb-true}
-use Rattle.rule.specs.Lists.{both, Maybe, none, some, Pairwise}
+use Rattle.rule.specs.Lists.{Maybe, none, some, Pairwise}
 use Rattle.rule.specs.Order.{less, isLess}
 use Rattle.rule.specs.Entries.{Entry, order}
-use Rattle.rule.specs.Moves.{Move, first, seek, next, previous, target, best}
+use Rattle.rule.specs.Moves.{first, seek, next, previous, target, best}
 use Rattle.rule.proofs.Lists.{both-true}
 use Rattle.rule.proofs.Order.{entries-less-number}
 use Rattle.image.specs.Limits.{levels, maxNodes, maxNumber, maxKey}
@@ -20,20 +19,21 @@ use Rattle.image.specs.Nodes.{count, entryOf}
 use Rattle.image.specs.Sound.{Sound, headerHolds, held, heldUpTo}
 use Rattle.image.specs.Search.{toStop, searched, standing, looksOf}
 use Rattle.image.specs.Lookup.{Lookup, saidAt, get}
-use Rattle.image.specs.Refusals.{Answer, refused, given, badImage, badNumber, longKey}
+use Rattle.image.specs.Refusals.{Answer, given, badImage, badNumber, longKey}
 use Rattle.image.specs.EntryMoves.{on, inTable, numberView}
 use Rattle.image.specs.Meaning.{IsNode}
 use Rattle.image.specs.Cuts.{Cut, all, from, above, below, cmpOf, admits, pastOf}
 use Rattle.image.proofs.Refusals.{demand-given, reading-given}
 use Rattle.image.proofs.Search.{searched-looks}
-use Rattle.image.proofs.Sound.{header-sound, everywhere}
+use Rattle.image.proofs.Add.{add-added}
+use Rattle.image.proofs.Sound.{header-sound, header-complete, everywhere}
 use Rattle.image.proofs.Held.{held-has}
 use Rattle.image.proofs.Views.{number-shown}
-use Rattle.image.specs.Refusals as is
-use Rattle.table.specs.Refusals.{refusalIs}
 use Rattle.table.specs.EntryViews.{shownNumber}
-use Rattle.table.specs.declared.refusals.Refusal.{Refusal}
-use Rattle.table.specs.declared.refusals.Refusal.the-variants as refusal
+use Rattle.table.specs.Memtable.{Adds}
+use Rattle.table.specs.Questions.{nodesOf}
+use Rattle.table.specs.Growth.{Grows}
+use Rattle.table.specs.declared.memtable.Added.the-variants as added
 
 -- ---- the nodes of a table
 
@@ -52,6 +52,10 @@ held-length xs = go (count xs)
     go : (n : ℕ) → length (heldUpTo xs n) ≡ n
     go zero = refl
     go (suc n) = length-append (heldUpTo xs n) (entryOf xs (suc n) ∷ []) ∙ (let e = go n in omega (arith, e))
+
+-- and that many are told of a sound image
+pub nodes-sound : (xs : List ℕ) → Sound xs → nodesOf xs ≡ count xs
+nodes-sound xs s = rw (header-complete xs (s .header))
 
 -- members of a list between whose members R holds
 between {ℓ κ} : {A : Type ℓ} (R : A → A → Type κ) (xs : List A) → Pairwise R xs → (x y : A) → List·Memᴰ x xs → List·Memᴰ y xs → (x ≡ y) ⊎ (R x y ⊎ R y x)
@@ -120,30 +124,19 @@ get-looks xs k s a e =
     same : {c d : Lookup} → _≡_ {A = Answer Lookup} (given c) (given d) → c .looks ≡ d .looks
     same e = let z : _ ≡ _ = e in cc
 
--- ---- refusals
+-- ---- additions
 
--- from a refusal of the definitions back to that of the code
-unfoldable pub refusalFrom : is.Refusal → Refusal
-refusalFrom is.badImage = refusal.BadImage
-refusalFrom is.badKind = refusal.BadKind
-refusalFrom is.badNumber = refusal.BadNumber
-refusalFrom is.longKey = refusal.LongKey
-refusalFrom is.longValue = refusal.LongValue
-refusalFrom is.badHeight = refusal.BadHeight
-refusalFrom is.noRoom = refusal.NoRoom
-refusalFrom is.duplicate = refusal.Duplicate
-refusalFrom is.damaged = refusal.Damaged
-refusalFrom is.noNode = refusal.NoNode
+-- an accepted addition keeps every node, and the table sound
+pub add-keeps : (xs : List ℕ) → Sound xs → (e : Entry) (h i : ℕ) (ys : List ℕ) → Adds xs e h (added.Node i) ys → Grows xs ys
+add-keeps xs s e h i ys a = let (prev, _, g) = add-added xs s e h (record { node = i; image = ys }) (sym (a .exact)) in record {
+  sound = g .sound;
+  node-kept = λ j n. record { some = n .some; most = omega (arith, g .one-more, n .most) };
+  entry-kept = λ j n. g .entries-kept j (n .some) (n .most);
+}
 
-pub refusal-back : (q : Refusal) → refusalFrom (refusalIs q) ≡ q
-unfolding refusalFrom
-refusal-back refusal.BadImage = refl
-refusal-back refusal.BadKind = refl
-refusal-back refusal.BadNumber = refl
-refusal-back refusal.LongKey = refl
-refusal-back refusal.LongValue = refl
-refusal-back refusal.BadHeight = refl
-refusal-back refusal.NoRoom = refl
-refusal-back refusal.Duplicate = refl
-refusal-back refusal.Damaged = refl
-refusal-back refusal.NoNode = refl
+-- so do none, and one after the other
+pub grows-not : (xs : List ℕ) → Sound xs → Grows xs xs
+grows-not xs s = record { sound = s; node-kept = λ j n. n; entry-kept = λ j n. refl }
+
+pub grows-on : (xs ys zs : List ℕ) → Grows xs ys → Grows ys zs → Grows xs zs
+grows-on xs ys zs a b = record { sound = b .sound; node-kept = λ j n. b .node-kept j (a .node-kept j n); entry-kept = λ j n. b .entry-kept j (a .node-kept j n) ∙ a .entry-kept j n }
