@@ -96,9 +96,6 @@ module _ (f g : List ℕ) (s : ℕ) (c : Cursor) (t : List ℕ) (e : asked f g s
   unfolding asked
   passes = let (a, x) = demand-given (headerHolds f) badImage _ tt e in let (b, y) = demand-given (headerHolds g) badImage _ tt x in (a, b, demand-given (inside f g c) noNode _ tt y .0)
 
-  pub asked-headers : HeadersHold f g
-  asked-headers = record { first = passes .0; second = passes .1 }
-
   pub asked-inside : CursorIn f g c
   asked-inside = go c (passes .2)
     where
@@ -146,9 +143,6 @@ module _ (v : Move) (f g : List ℕ) (s : ℕ) (c : Cursor) {t : MoveTest} (e : 
       which d = cc
 
   module _ (h : t ≡ Passed) where
-    pub passed-headers : HeadersHold f g
-    passed-headers = asked-headers f g s c (keyGiven v) (sym e ∙ ap testAs h)
-
     -- a move that leads to its target
     leads : (r : Moved) → (Sound f → Sound g → CursorIn f g c → LeadsTo f g s (target v s (startKey f g c) (all f g)) r) → MovedIn f g c r → Moves v f g s c r
     leads r a b = record {
