@@ -25,15 +25,11 @@ use Rattle.image.specs.Meaning.{IsNode}
 use Rattle.image.specs.Cuts.{Cut, all, from, above, below, cmpOf, admits, pastOf}
 use Rattle.image.proofs.Refusals.{demand-given, reading-given}
 use Rattle.image.proofs.Search.{searched-looks}
-use Rattle.image.proofs.Add.{add-added}
 use Rattle.image.proofs.Sound.{header-sound, header-complete, everywhere}
 use Rattle.image.proofs.Held.{held-has}
 use Rattle.image.proofs.Views.{number-shown}
 use Rattle.table.specs.EntryViews.{shownNumber}
-use Rattle.table.specs.Memtable.{Adds}
 use Rattle.table.specs.Questions.{nodesOf}
-use Rattle.table.specs.Growth.{Grows}
-use Rattle.table.specs.declared.memtable.Added.the-variants as added
 
 -- ---- the nodes of a table
 
@@ -123,20 +119,3 @@ get-looks xs k s a e =
   where
     same : {c d : Lookup} → _≡_ {A = Answer Lookup} (given c) (given d) → c .looks ≡ d .looks
     same e = let z : _ ≡ _ = e in cc
-
--- ---- additions
-
--- an accepted addition keeps every node, and the table sound
-pub add-keeps : (xs : List ℕ) → Sound xs → (e : Entry) (h i : ℕ) (ys : List ℕ) → Adds xs e h (added.Node i) ys → Grows xs ys
-add-keeps xs s e h i ys a = let (prev, _, g) = add-added xs s e h (record { node = i; image = ys }) (sym (a .exact)) in record {
-  sound = g .sound;
-  node-kept = λ j n. record { some = n .some; most = omega (arith, g .one-more, n .most) };
-  entry-kept = λ j n. g .entries-kept j (n .some) (n .most);
-}
-
--- so do none, and one after the other
-pub grows-not : (xs : List ℕ) → Sound xs → Grows xs xs
-grows-not xs s = record { sound = s; node-kept = λ j n. n; entry-kept = λ j n. refl }
-
-pub grows-on : (xs ys zs : List ℕ) → Grows xs ys → Grows ys zs → Grows xs zs
-grows-on xs ys zs a b = record { sound = b .sound; node-kept = λ j n. b .node-kept j (a .node-kept j n); entry-kept = λ j n. b .entry-kept j (a .node-kept j n) ∙ a .entry-kept j n }

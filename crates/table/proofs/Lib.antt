@@ -17,3 +17,4 @@ pub mod Views
 pub mod Presences
 pub mod OneAnswer
 pub mod Laws
+pub mod Growth
