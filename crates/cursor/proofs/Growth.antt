@@ -5,10 +5,11 @@ use mathlib.Core.List.{List}
 use Rattle.rule.specs.Entries.{Entry}
 use Rattle.image.specs.Sound.{Sound}
 use Rattle.table.specs.Growth.{Grows}
-use Rattle.cursor.specs.Places.{imageOf, CursorIn}
+use Rattle.cursor.specs.Places.{imageOf, entryAt, PlaceIn, CursorIn}
 use Rattle.cursor.specs.Rows.{valueIn, entryShown, ShowsKey, ShowsValue, Refuses}
 use Rattle.cursor.specs.declared.places.Side.{Side}
 use Rattle.cursor.specs.declared.places.Side.the-variants.{First, Second}
+use Rattle.cursor.specs.declared.places.Place.{Place}
 use Rattle.cursor.specs.declared.places.Cursor.{Cursor}
 use Rattle.cursor.specs.declared.places.Cursor.the-variants.{Nowhere, On}
 
@@ -23,9 +24,12 @@ module _ (f g f′ g′ : List ℕ) (a : Grows f f′) (b : Grows g g′) where
   cursor-kept (On p) i = grown (p .table) .node-kept (p .node) i
 
   -- and is on the same entry
+  pub entry-stays : (p : Place) → PlaceIn f g p → entryAt f′ g′ p ≡ entryAt f g p
+  entry-stays p i = grown (p .table) .entry-kept (p .node) i
+
   pub entry-kept : (show : Entry → List ℕ) (c : Cursor) → CursorIn f g c → entryShown show f′ g′ c ≡ entryShown show f g c
   entry-kept show Nowhere i = refl
-  entry-kept show (On p) i = ap show (grown (p .table) .entry-kept (p .node) i)
+  entry-kept show (On p) i = ap show (entry-stays p i)
 
   module _ (x : Sound f) (y : Sound g) (c : Cursor) (i : CursorIn f g c) where
     pub key-kept : (v w : List ℕ) → ShowsKey f g c v → ShowsKey f′ g′ c w → v ≡ w

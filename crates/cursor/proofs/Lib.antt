@@ -5,3 +5,4 @@ pub mod Rows
 pub mod Pairs
 pub mod Unique
 pub mod Growth
+pub mod Runs

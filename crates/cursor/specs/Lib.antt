@@ -4,3 +4,4 @@ pub mod Walks
 pub mod Moves
 pub mod Rows
 pub mod Pairs
+pub mod Runs

@@ -1,0 +1,80 @@
+-- Runs of a host's moves over two tables that grow: what demand 3 speaks of.
+use Prim.Native.Nat.{ℕ}
+use mathlib.Core.Path.{_≡_}
+use mathlib.Core.List.{List, [], _∷_}
+use Rattle.rule.specs.Lists.{Maybe, none, some}
+use Rattle.rule.specs.Entries.{Entry, Agree, Single}
+use Rattle.rule.specs.Moves.{Move, Row}
+use Rattle.image.specs.Refusals.{numberOf}
+use Rattle.table.specs.Refusals.{refusalIs}
+use Rattle.table.specs.Growth.{Begun, Additions}
+use Rattle.cursor.specs.Places.{all}
+use Rattle.cursor.specs.Moves.{Moves}
+use Rattle.cursor.specs.Rows.{ShowsKey, ShowsValue}
+use Rattle.cursor.specs.declared.places.Cursor.{Cursor}
+use Rattle.cursor.specs.declared.places.Cursor.the-variants.{Nowhere, On}
+use Rattle.cursor.specs.declared.db_iter.Moved.{Moved}
+use Rattle.cursor.specs.declared.db_iter.Moved.the-variants.{To, Refused}
+
+-- a pair of tables
+pub record Tables : Type 0 where
+  pub first : List ℕ
+  pub second : List ℕ
+
+-- the entries of both
+abbrev pub entriesOf : Tables → List Entry
+entriesOf t = all (t .first) (t .second)
+
+-- the cursor that an answer hands to the host
+abbrev pub cursorOf : Moved → Cursor
+cursorOf (To c) = c
+cursorOf (Refused q c) = c
+
+-- the number of its refusal, 0 for none
+abbrev pub refusalOf : Moved → ℕ
+refusalOf (To c) = 0
+refusalOf (Refused q c) = numberOf (refusalIs q)
+
+-- the row shown at a cursor: none when nowhere, else a key and a value that the promises of the views allow
+abbrev pub Shows : Tables → Cursor → Maybe Row → Type 0
+Shows t Nowhere none = Unit
+Shows t Nowhere (some w) = ⊥
+Shows t (On p) none = ⊥
+Shows t (On p) (some w) = ShowsKey (t .first) (t .second) (On p) (w .key) × ShowsValue (t .first) (t .second) (On p) (w .value)
+
+-- what the host sees of a move: the number of a refusal, or 0, and the row shown after it
+pub record Seen : Type 0 where
+  pub refusal : ℕ
+  pub row : Maybe Row
+
+-- a move in a run, with the tables as they stand at that call
+pub record Moment : Type 0 where
+  pub tables : Tables
+  pub move : Move
+  pub seen : Seen
+
+-- what was seen, moment by moment
+abbrev pub seenIn : List Moment → List Seen
+seenIn [] = []
+seenIn (m ∷ ms) = m .seen ∷ seenIn ms
+
+-- the moments of a run at snapshot s, the last one first: both tables begun fresh, the cursor nowhere; then before each move any accepted additions
+-- to either table, and of the move any answer that its promise allows
+pub data Run (s : ℕ) : Tables → Cursor → List Moment → Type 0 where
+  begun : {t : Tables} → Begun (t .first) → Begun (t .second) → Run s t Nowhere []
+  moved : {t : Tables} {c : Cursor} {ms : List Moment} {es fs : List Entry} (u : Tables) (v : Move) (r : Moved) (w : Maybe Row)
+      → Run s t c ms → Additions (t .first) es (u .first) → Additions (t .second) fs (u .second)
+      → Moves v (u .first) (u .second) s c r → Shows u (cursorOf r) w
+      → Run s u (cursorOf r) (record { tables = u; move = v; seen = record { refusal = refusalOf r; row = w } } ∷ ms)
+
+-- the same entries up to s, and no two of them with the same key and number (in the one list, and so in the other)
+pub record Alike (s : ℕ) (es fs : List Entry) : Type 0 where
+  pub agree : Agree s es fs
+  pub single : Single s es
+
+-- two runs in lockstep: the same moves, at each of them over entries that are alike up to s
+abbrev pub Lockstep : ℕ → List Moment → List Moment → Type 0
+Lockstep s [] [] = Unit
+Lockstep s [] (n ∷ ns) = ⊥
+Lockstep s (m ∷ ms) [] = ⊥
+Lockstep s (m ∷ ms) (n ∷ ns) = (m .move ≡ n .move) × Alike s (entriesOf (m .tables)) (entriesOf (n .tables)) × Lockstep s ms ns
