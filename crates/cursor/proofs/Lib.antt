@@ -5,4 +5,5 @@ pub mod Rows
 pub mod Pairs
 pub mod Unique
 pub mod Growth
-pub mod Runs
+pub mod Lockstep
+pub mod Demand3

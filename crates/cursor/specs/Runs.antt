@@ -6,8 +6,11 @@ use Rattle.rule.specs.Lists.{Maybe, none, some}
 use Rattle.rule.specs.Entries.{Entry, Agree, Single}
 use Rattle.rule.specs.Moves.{Move, Row}
 use Rattle.image.specs.Refusals.{numberOf}
+use Rattle.image.specs.EntryMoves.{on, viewed, valueView}
 use Rattle.table.specs.Refusals.{refusalIs}
 use Rattle.table.specs.Growth.{Begun, Additions}
+use Rattle.table.specs.declared.memtable.Lookup.{Lookup}
+use Rattle.table.specs.declared.memtable.Lookup.the-variants as lookup
 use Rattle.cursor.specs.Places.{all}
 use Rattle.cursor.specs.Moves.{Moves}
 use Rattle.cursor.specs.Rows.{ShowsKey, ShowsValue}
@@ -78,3 +81,26 @@ Lockstep s [] [] = Unit
 Lockstep s [] (n ∷ ns) = ⊥
 Lockstep s (m ∷ ms) [] = ⊥
 Lockstep s (m ∷ ms) (n ∷ ns) = (m .move ≡ n .move) × Alike s (entriesOf (m .tables)) (entriesOf (n .tables)) × Lockstep s ms ns
+
+-- the moves of a run
+abbrev pub movesIn : List Moment → List Move
+movesIn [] = []
+movesIn (m ∷ ms) = m .move ∷ movesIn ms
+
+-- all its moves were made over these tables: nothing was added between them
+abbrev pub Still : Tables → List Moment → Type 0
+Still t [] = Unit
+Still t (m ∷ ms) = (m .tables ≡ t) × Still t ms
+
+-- what the host learns by a lookup in one table: the number of the refusal, or the value that the view's promise gives, deleted, absent
+pub data Learnt : Type 0 where
+  refused : ℕ → Learnt
+  found : List ℕ → Learnt
+  deleted : Learnt
+  absent : Learnt
+
+abbrev pub learnt : List ℕ → Lookup → Learnt
+learnt xs (lookup.Found i looks) = found (viewed xs (valueView xs (on i)))
+learnt xs (lookup.Deleted looks) = deleted
+learnt xs (lookup.Absent looks) = absent
+learnt xs (lookup.Refused q) = refused (numberOf (refusalIs q))

@@ -1,4 +1,4 @@
--- Demand 3: two runs in lockstep show the same rows. Only promises are used, of `fresh`, `add`, the moves and the views.
+-- Two runs in lockstep stay on equal entries. Only promises are used: of `fresh`, `add`, the moves and the views.
 use Prim.Native.Nat.{ℕ, _≤_}
 use mathlib.Core.Path.{_≡_, refl, sym, ap, subst, _∙_}
 use mathlib.Core.List.{List, [], _∷_}
@@ -150,42 +150,51 @@ module _ (t : Tables) (c : Cursor) (u : Tables) (d : Cursor) (b : Together t c u
 
 -- ---- growth keeps a cursor on its entry
 
-whole-grown : (t u : Tables) (c : Cursor) {es fs : List Entry} → Whole t c → Additions (t .first) es (u .first) → Additions (t .second) fs (u .second) → Whole u c
+pub whole-grown : (t u : Tables) (c : Cursor) {es fs : List Entry} → Whole t c → Additions (t .first) es (u .first) → Additions (t .second) fs (u .second) → Whole u c
 whole-grown t u c h a b = let g = additions-grow (h .first) a in let k = additions-grow (h .second) b in record {
   first = g .sound;
   second = k .sound;
   within = cursor-kept (t .first) (t .second) (u .first) (u .second) g k c (h .within);
 }
 
-entry-grown : (t u : Tables) (c : Cursor) {es fs : List Entry} → Whole t c → Additions (t .first) es (u .first) → Additions (t .second) fs (u .second) → entryOn u c ≡ entryOn t c
+pub entry-grown : (t u : Tables) (c : Cursor) {es fs : List Entry} → Whole t c → Additions (t .first) es (u .first) → Additions (t .second) fs (u .second) → entryOn u c ≡ entryOn t c
 entry-grown t u Nowhere h a b = refl
 entry-grown t u (On p) h a b = ap {B = Maybe Entry} some (entry-stays (t .first) (t .second) (u .first) (u .second) (additions-grow (h .first) a) (additions-grow (h .second) b) p (h .within))
 
 -- ---- any number of moves
 
-module _ (s : ℕ) where
-  in-step : {t u : Tables} {c d : Cursor} {ms ns : List Moment} → Run s t c ms → Run s u d ns → Lockstep s ms ns → Together t c u d × (seenIn ms ≡ seenIn ns)
-  in-step (begun {t = t} a b) (begun {t = u} e f) l = (
-    record {
-      left = record { first = begun-sound (t .first) a .0; second = begun-sound (t .second) b .0; within = tt };
-      right = record { first = begun-sound (u .first) e .0; second = begun-sound (u .second) f .0; within = tt };
-      same = refl;
-    },
-    refl,
-  )
-  in-step (begun a b) (moved u v r w n e f x y) l = absurd l
-  in-step (moved u v r w m e f x y) (begun a b) l = absurd l
-  in-step (moved {t = t} {c = c} {ms = ms} t′ v r w m a b x y) (moved {t = u} {c = d} {ms = ns} u′ v′ q z n e f i j) (same, alike, rest) = after (in-step m n rest)
-    where
-      after : Together t c u d × (seenIn ms ≡ seenIn ns) → Together t′ (cursorOf r) u′ (cursorOf q) × ((record { refusal = refusalOf r; row = w } ∷ seenIn ms) ≡ (record { refusal = refusalOf q; row = z } ∷ seenIn ns))
-      after (k, h) =
-          let g = same-move t′ c u′ d (record {
-            left = whole-grown t t′ c (k .left) a b;
-            right = whole-grown u u′ d (k .right) e f;
-            same = entry-grown t t′ c (k .left) a b ∙ k .same ∙ sym (entry-grown u u′ d (k .right) e f);
-          }) s alike v r q x (rw same i) in
-          (g .together, rw (g .refusal, same-shown t′ (cursorOf r) u′ (cursorOf q) (g .together) w z y j, h))
+-- one run: what a move hands back, refused or not, is in the tables
+moved-within : (t : Tables) (c : Cursor) → Whole t c → (s : ℕ) (v : Move) (r : Moved) → Moves v (t .first) (t .second) s c r → CursorIn (t .first) (t .second) (cursorOf r)
+moved-within t c h s v r x = go (asked (t .first) (t .second) s c (keyGiven v)) refl
+  where
+    go : (w : Answer {0} Unit) → asked (t .first) (t .second) s c (keyGiven v) ≡ w → CursorIn (t .first) (t .second) (cursorOf r)
+    go (refused o) e = rw (stayed o c r (x .refused o e) .1) (h .within)
+    go (given n) e = reached t s (target v s (startKey (t .first) (t .second) c) (entriesOf t)) r (x .rule e (h .first) (h .second)) .within
 
-  -- DEMAND 3
-  pub same-rows : {t u : Tables} {c d : Cursor} {ms ns : List Moment} → Run s t c ms → Run s u d ns → Lockstep s ms ns → seenIn ms ≡ seenIn ns
-  same-rows m n l = in-step m n l .1
+pub run-whole : {s : ℕ} {t : Tables} {c : Cursor} {ms : List Moment} → Run s t c ms → Whole t c
+run-whole (begun {t = t} a b) = record { first = begun-sound (t .first) a .0; second = begun-sound (t .second) b .0; within = tt }
+run-whole {s = s} (moved {t = t} {c = c} u v r w m a b x y) = let h = whole-grown t u c (run-whole m) a b in record { first = h .first; second = h .second; within = moved-within u c h s v r x }
+
+-- two runs
+
+pub in-step : (s : ℕ) {t u : Tables} {c d : Cursor} {ms ns : List Moment} → Run s t c ms → Run s u d ns → Lockstep s ms ns → Together t c u d × (seenIn ms ≡ seenIn ns)
+in-step s (begun {t = t} a b) (begun {t = u} e f) l = (
+  record {
+    left = record { first = begun-sound (t .first) a .0; second = begun-sound (t .second) b .0; within = tt };
+    right = record { first = begun-sound (u .first) e .0; second = begun-sound (u .second) f .0; within = tt };
+    same = refl;
+  },
+  refl,
+)
+in-step s (begun a b) (moved u v r w n e f x y) l = absurd l
+in-step s (moved u v r w m e f x y) (begun a b) l = absurd l
+in-step s (moved {t = t} {c = c} {ms = ms} t′ v r w m a b x y) (moved {t = u} {c = d} {ms = ns} u′ v′ q z n e f i j) (same, alike, rest) = after (in-step s m n rest)
+  where
+    after : Together t c u d × (seenIn ms ≡ seenIn ns) → Together t′ (cursorOf r) u′ (cursorOf q) × ((record { refusal = refusalOf r; row = w } ∷ seenIn ms) ≡ (record { refusal = refusalOf q; row = z } ∷ seenIn ns))
+    after (k, h) =
+        let g = same-move t′ c u′ d (record {
+          left = whole-grown t t′ c (k .left) a b;
+          right = whole-grown u u′ d (k .right) e f;
+          same = entry-grown t t′ c (k .left) a b ∙ k .same ∙ sym (entry-grown u u′ d (k .right) e f);
+        }) s alike v r q x (rw same i) in
+        (g .together, rw (g .refusal, same-shown t′ (cursorOf r) u′ (cursorOf q) (g .together) w z y j, h))
