@@ -7,3 +7,4 @@ pub mod Unique
 pub mod Growth
 pub mod Lockstep
 pub mod Demand3
+pub mod Demand3Case

@@ -70,10 +70,10 @@ shows-row t (On p) h none s = absurd s
 shows-row t (On p) h (some w) (k, v) = rw (← k .rule (h .first) (h .second) (h .within), ← v .rule (h .first) (h .second) (h .within))
 
 -- the arguments of a move are refused for the snapshot and the key alone
-abbrev askedOf : ℕ → List ℕ → Answer {0} Unit
+abbrev pub askedOf : ℕ → List ℕ → Answer {0} Unit
 askedOf s k = demand (leb s maxNumber) badNumber (demand (leb (length k) maxKey) longKey (given tt))
 
-asked-whole : (t : Tables) (c : Cursor) → Whole t c → (s : ℕ) (k : List ℕ) → asked (t .first) (t .second) s c k ≡ askedOf s k
+pub asked-whole : (t : Tables) (c : Cursor) → Whole t c → (s : ℕ) (k : List ℕ) → asked (t .first) (t .second) s c k ≡ askedOf s k
 unfolding asked
 asked-whole t c h s k = rw (header-complete (t .first) (h .first .header), header-complete (t .second) (h .second .header), go c (h .within))
   where

@@ -46,10 +46,10 @@ module _ (f g : List ℕ) (x : Sound f) (y : Sound g) where
 -- ---- each way out
 
 module _ (f g : List ℕ) (c : Cursor) where
-  shows-key : (v : List ℕ) → v ≡ shownOn keyAt f g c → ShowsKey f g c v
+  pub shows-key : (v : List ℕ) → v ≡ shownOn keyAt f g c → ShowsKey f g c v
   shows-key v e = record { exact = e; rule = λ x y i. e ∙ key-rule f g x y c i }
 
-  shows-value : (v : List ℕ) → v ≡ shownOn valueAt f g c → ShowsValue f g c v
+  pub shows-value : (v : List ℕ) → v ≡ shownOn valueAt f g c → ShowsValue f g c v
   shows-value v e = record { exact = e; rule = λ x y i. e ∙ value-rule f g x y c i }
 
   pub refuses : (n : ℕ) → n ≡ cond (both (headerHolds f) (headerHolds g)) (refusalOn f g c) (numberOf badImage) → Refuses f g c n
