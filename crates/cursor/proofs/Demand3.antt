@@ -1,10 +1,9 @@
 -- Demand 3, in the words of 00-demands.md: what a host sees depends on the entries up to its snapshot alone.
 use Prim.Native.Nat.{ℕ, _≤_, _<_}
-use native.Mathlib.Omega.{arith}
-use mathlib.Core.Path.{_≡_, refl, sym, ap, subst, _∙_}
-use mathlib.Core.Logic.{_↔_, ⊎-elim}
-use mathlib.Core.List.{List, [], _∷_, _++_, List·Memᴰ, List·Memᴰ·append-cases, Memᴰ·append-left, Memᴰ·append-right, nil≢cons, cons≢nil, head-eq-of-cons-eq, tail-eq-of-cons-eq}
-use mathlib.Core.Bool.{Bool, true, false, not}
+use mathlib.Core.Path.{_≡_, refl, sym, ap, _∙_}
+use mathlib.Core.Logic.{_↔_}
+use mathlib.Core.List.{List, [], _∷_, _++_, List·Memᴰ, nil≢cons, cons≢nil, head-eq-of-cons-eq, tail-eq-of-cons-eq}
+use mathlib.Core.Bool.{Bool, true, false}
 use lib.ListN.{length}
 use lib.Dec.{leb, eqb}
 use borrow.Author.Tests.{leb-true, leb-false}
@@ -12,9 +11,8 @@ use Rattle.rule.specs.Lists.{cond, Maybe, none, some, All}
 use Rattle.rule.specs.Entries.{Entry, Agree, Single, valueKind}
 use Rattle.rule.specs.Rows.{newest}
 use Rattle.rule.specs.Moves.{Move, Row}
-use Rattle.rule.proofs.Rows.{same-newest}
+use Rattle.rule.proofs.Rows.{same-newest, agree-later, agree-both}
 use Rattle.image.specs.Limits.{maxKey, maxNumber}
-use Rattle.image.specs.Nodes.{entryOf}
 use Rattle.image.specs.Sound.{Sound, headerHolds, held}
 use Rattle.image.specs.Refusals as is
 use Rattle.image.specs.Refusals.{Answer, given, badNumber, longKey, numberOf}
@@ -25,7 +23,6 @@ use Rattle.image.proofs.Refusals.{refused-given}
 use Rattle.image.proofs.Sound.{header-complete}
 use Rattle.image.proofs.Held.{held-single}
 use Rattle.image.proofs.Views.{value-shown}
-use Rattle.table.specs.Refusals.{refusalIs}
 use Rattle.table.specs.Memtable.{lookupAs, Gets}
 use Rattle.table.specs.Growth.{Additions, Filled}
 use Rattle.table.specs.declared.memtable.Lookup.{Lookup}
@@ -36,7 +33,7 @@ use Rattle.cursor.specs.Moves.{Moves}
 use Rattle.cursor.specs.Runs.{Tables, entriesOf, cursorOf, refusalOf, Shows, Moment, seenIn, Run, Alike, Lockstep, movesIn, Still, Learnt, found, deleted, absent, refused, learnt}
 use Rattle.cursor.specs.declared.places.Cursor.{Cursor}
 use Rattle.cursor.specs.declared.db_iter.Moved.{Moved}
-use Rattle.cursor.proofs.Lockstep.{Whole, Together, same-shown, same-move, whole-grown, entry-grown, run-whole, in-step}
+use Rattle.cursor.proofs.Lockstep.{same-shown, same-move, whole-grown, entry-grown, run-whole, in-step}
 
 -- DEMAND 3. Fix a snapshot. Take two pairs of tables, each begun fresh and from then on changed by accepted additions alone. If at every move the entries
 -- numbered up to the snapshot are the same set in both pairs, with no key and number twice among them, then any string of moves, starting nowhere, shows the
@@ -131,7 +128,7 @@ module _ (s : ℕ) (t u : Tables) {t′ u′ : Tables} {c d : Cursor} {ms ns : L
 
     -- the order of arrival
     pub arrival-hidden : SameMembers es es′ → SameMembers fs fs′ → seenIn ms ≡ seenIn ns
-    arrival-hidden g h = split-hidden (λ e. (λ k. ⊎-elim (λ l. Memᴰ·append-left fs′ (g e .0 l)) (λ l. Memᴰ·append-right es′ (h e .0 l)) (List·Memᴰ·append-cases es k), λ k. ⊎-elim (λ l. Memᴰ·append-left fs (g e .1 l)) (λ l. Memᴰ·append-right es (h e .1 l)) (List·Memᴰ·append-cases es′ k)))
+    arrival-hidden g h = later-hidden (agree-both s es es′ fs fs′ (λ e _. g e) (λ e _. h e))
 
     -- tower heights: the same entries in the same order
     pub heights-hidden : es ≡ es′ → fs ≡ fs′ → seenIn ms ≡ seenIn ns
@@ -141,12 +138,6 @@ module _ (s : ℕ) (t u : Tables) {t′ u′ : Tables} {c d : Cursor} {ms ns : L
 
 abbrev pub Later : ℕ → List Entry → Type 0
 Later s es = All (λ e. s < e .number) es
-
-agree-later : (s : ℕ) (es fs : List Entry) → Later s fs → Agree s es (es ++ fs)
-agree-later s es fs l e h = (λ k. Memᴰ·append-left fs k, λ k. ⊎-elim (λ i. i) (λ i. absurd (omega (arith, h, l e i))) (List·Memᴰ·append-cases es k))
-
-agree-both : (s : ℕ) (es es′ fs fs′ : List Entry) → Agree s es es′ → Agree s fs fs′ → Agree s (es ++ fs) (es′ ++ fs′)
-agree-both s es es′ fs fs′ g h e l = (λ k. ⊎-elim (λ i. Memᴰ·append-left fs′ ((g e l) .0 i)) (λ i. Memᴰ·append-right es′ ((h e l) .0 i)) (List·Memᴰ·append-cases es k), λ k. ⊎-elim (λ i. Memᴰ·append-left fs ((g e l) .1 i)) (λ i. Memᴰ·append-right es ((h e l) .1 i)) (List·Memᴰ·append-cases es′ k))
 
 pub between-hidden : (s : ℕ) {t u : Tables} {c : Cursor} {ms : List Moment} {es fs : List Entry} → Run s t c ms → Single s (entriesOf t) → Additions (t .first) es (u .first) → Later s es → Additions (t .second) fs (u .second) → Later s fs
     → (v : Move) (r q : Moved) (w z : Maybe Row) → Moves v (t .first) (t .second) s c r → Shows t (cursorOf r) w → Moves v (u .first) (u .second) s c q → Shows u (cursorOf q) z → (refusalOf r ≡ refusalOf q) × (w ≡ z)

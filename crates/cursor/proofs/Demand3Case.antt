@@ -3,14 +3,14 @@
 use Prim.Native.Nat.{ℕ, _≤_, _<_}
 use native.Mathlib.Omega.{arith}
 use mathlib.Core.Path.{_≡_, refl, sym, ap, _∙_}
-use mathlib.Core.List.{List, [], _∷_, _++_, List·Memᴰ, List·Memᴰ·tail}
-use mathlib.Core.Bool.{Bool, true, false, false≢true}
+use mathlib.Core.List.{List, [], _∷_, List·Memᴰ, List·Memᴰ·tail}
+use mathlib.Core.Bool.{true, false≢true}
 use lib.ListN.{length, replicate}
 use Rattle.rule.specs.Lists.{Maybe, none, some, All}
 use Rattle.rule.specs.Order.{compareKeys, compareEntries}
 use Rattle.rule.specs.Entries.{Entry, Agree, Single, valueKind}
 use Rattle.rule.specs.Rows.{fits, newest}
-use Rattle.rule.specs.Moves.{Move, first, next, previous, Row, target}
+use Rattle.rule.specs.Moves.{Move, first, next, previous, target}
 use Rattle.rule.proofs.Lists.{here, all-nil, all-cons}
 use Rattle.rule.proofs.Rows.{pairwise-single}
 use Rattle.image.specs.Words.{word, putWord, putWords}
@@ -18,12 +18,12 @@ use Rattle.image.specs.Entries.{encode, lenAt, keyedAt, restAt}
 use Rattle.image.specs.Nodes.{leadAt, heightOf, entryOf, linkOf}
 use Rattle.image.specs.Sound.{headerHolds, held}
 use Rattle.image.specs.Search.{find, look}
-use Rattle.image.specs.Fresh.{fresh, freshImage}
+use Rattle.image.specs.Fresh.{freshImage}
 use Rattle.image.specs.Add.{nodeWritten, written, add, afterwards}
-use Rattle.image.specs.EntryMoves.{partsOn}
 use Rattle.image.specs.BootBench.{put, gone, a, b, x, y}
 use Rattle.image.specs.Refusals.{given}
 use Rattle.image.proofs.Refusals.{refused-given}
+use Rattle.table.specs.Memtable.{Adds}
 use Rattle.table.specs.Growth.{Begun, Additions}
 use Rattle.table.specs.Growth as growth
 use Rattle.table.proofs.Answers.{fresh-done, adds}
@@ -31,7 +31,7 @@ use Rattle.table.specs.declared.memtable.Added.the-variants as added
 use Rattle.cursor.specs.Places.{place, entryAt, earlier, PlaceIn}
 use Rattle.cursor.specs.Moves.{keyGiven, startKey}
 use Rattle.cursor.specs.Rows.{valueIn}
-use Rattle.cursor.specs.Runs.{Tables, entriesOf, Shows, Seen, Moment, seenIn, Run, begun, moved, Alike, Lockstep}
+use Rattle.cursor.specs.Runs.{Tables, entriesOf, Moment, seenIn, Run, begun, moved, Alike, Lockstep}
 use Rattle.cursor.specs.declared.places.Side.the-variants.{First, Second}
 use Rattle.cursor.specs.declared.places.Place.{Place}
 use Rattle.cursor.specs.declared.places.Cursor.{Cursor}
@@ -47,10 +47,10 @@ abbrev after : List ℕ → Entry → ℕ → List ℕ
 after xs e h = afterwards xs (add xs e h)
 
 -- the one pair: a=x, then a@7-, in the first; b=y in the second
-abbrev f0 : List ℕ
+abbrev pub f0 : List ℕ
 f0 = freshImage (replicate 125 0xa5)
 
-abbrev f1 : List ℕ
+abbrev pub f1 : List ℕ
 f1 = after f0 (put a 1 x) 1
 
 abbrev f2 : List ℕ
@@ -59,7 +59,7 @@ f2 = after f1 (gone a 7) 2
 abbrev g0 : List ℕ
 g0 = freshImage (replicate 100 0)
 
-abbrev g1 : List ℕ
+abbrev pub g1 : List ℕ
 g1 = after g0 (put b 2 y) 2
 
 -- the other: nothing in the first; b=y, then a=x, in the second
@@ -78,7 +78,7 @@ q2 = after q1 (put a 1 x) 3
 abbrev beganLeft : Tables
 beganLeft = record { first = f0; second = g0 }
 
-abbrev left : Tables
+abbrev pub left : Tables
 left = record { first = f1; second = g1 }
 
 abbrev leftLater : Tables
@@ -95,9 +95,12 @@ freshly : (xs : List ℕ) → 64 ≤ length xs → length xs ≤ 65536 → Begun
 freshly xs m n = record { lent = xs; made = fresh-done xs m n (freshImage xs) refl }
 
 -- and the additions are accepted
-add-a : Additions f0 (put a 1 x ∷ []) f1
+pub adding-a : Adds f0 (put a 1 x) 1 (added.Node 1) f1
 unfolding compareKeys compareEntries headerHolds add find look word putWord putWords linkOf heightOf entryOf nodeWritten written lenAt keyedAt restAt encode leadAt
-add-a = growth.more (put a 1 x) 1 1 (adds f0 (put a 1 x) 1 (added.Node 1) f1 refl refl) growth.none
+adding-a = adds f0 (put a 1 x) 1 (added.Node 1) f1 refl refl
+
+add-a : Additions f0 (put a 1 x ∷ []) f1
+add-a = growth.more (put a 1 x) 1 1 adding-a growth.none
 
 add-later : Additions f1 (gone a 7 ∷ []) f2
 unfolding compareKeys compareEntries headerHolds add find look word putWord putWords linkOf heightOf entryOf nodeWritten written lenAt keyedAt restAt encode leadAt
@@ -113,7 +116,7 @@ add-both = growth.more (put b 2 y) 1 1 (adds q0 (put b 2 y) 1 (added.Node 1) q1 
 
 -- ---- the entries up to 2 are the same in both pairs
 
-held-left : entriesOf left ≡ put a 1 x ∷ put b 2 y ∷ []
+pub held-left : entriesOf left ≡ put a 1 x ∷ put b 2 y ∷ []
 unfolding compareKeys compareEntries headerHolds add find look word putWord putWords linkOf heightOf entryOf nodeWritten written lenAt keyedAt restAt encode leadAt
 held-left = refl
 
@@ -162,7 +165,7 @@ pub record Stands (t : Tables) (p : Place) (e : Entry) : Type 0 where
   pub inside : PlaceIn (t .first) (t .second) p
   pub entry : entryAt (t .first) (t .second) p ≡ e
 
-left-a : Stands left (place First 1) (put a 1 x)
+pub left-a : Stands left (place First 1) (put a 1 x)
 unfolding compareKeys compareEntries headerHolds add find look word putWord putWords linkOf heightOf entryOf nodeWritten written lenAt keyedAt restAt encode leadAt
 left-a = record { inside = record { some = omega arith; most = omega arith }; entry = refl }
 
@@ -206,11 +209,18 @@ module _ {t : Tables} {c : Cursor} {ms : List Moment} (m : Run 2 t c ms) {u : Ta
     shows-value (u .first) (u .second) (On p) (e .value) (sym (value-rule (u .first) (u .second) (whole .first) (whole .second) (On p) (s .inside) ∙ ap valueIn (s .entry) ∙ rw w)),
   )
 
-left-begun : Run 2 beganLeft Nowhere []
+pub left-begun : Run 2 beganLeft Nowhere []
 left-begun = begun (freshly (replicate 125 0xa5) (omega arith) (omega arith)) (freshly (replicate 100 0) (omega arith) (omega arith))
 
 right-begun : Run 2 beganRight Nowhere []
 right-begun = begun (freshly (replicate 64 0xff) (omega arith) (omega arith)) (freshly (replicate 130 0x11) (omega arith) (omega arith))
+
+-- the tables of the first move are undamaged, and its cursor is in them
+pub whole-begun : Whole left Nowhere
+whole-begun = whole-grown beganLeft left Nowhere (run-whole left-begun) add-a add-b
+
+pub whole-left : Whole left (On (place First 1))
+whole-left = record { first = whole-begun .first; second = whole-begun .second; within = left-a .inside }
 
 left-run : Run 2 leftLater (On (place First 1)) (moment leftLater previous a x ∷ moment leftLater next b y ∷ moment left first a x ∷ [])
 unfolding compareKeys

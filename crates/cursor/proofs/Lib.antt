@@ -8,3 +8,4 @@ pub mod Growth
 pub mod Lockstep
 pub mod Demand3
 pub mod Demand3Case
+pub mod RuledOut

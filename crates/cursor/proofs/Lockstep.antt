@@ -1,35 +1,29 @@
 -- Two runs in lockstep stay on equal entries. Only promises are used: of `fresh`, `add`, the moves and the views.
-use Prim.Native.Nat.{ℕ, _≤_}
-use mathlib.Core.Path.{_≡_, refl, sym, ap, subst, _∙_}
-use mathlib.Core.List.{List, [], _∷_}
-use mathlib.Core.Bool.{Bool, true, false}
+use Prim.Native.Nat.{ℕ}
+use mathlib.Core.Path.{_≡_, refl, sym, ap, _∙_}
+use mathlib.Core.List.{List, _∷_}
+use mathlib.Core.Bool.{true}
 use lib.ListN.{length}
 use lib.Dec.{leb}
 use borrow.Author.Tests.{le-leb}
 use Rattle.rule.specs.Lists.{Maybe, none, some}
-use Rattle.rule.specs.Entries.{Entry, Agree, Single}
+use Rattle.rule.specs.Entries.{Entry}
 use Rattle.rule.specs.Rows.{newest}
 use Rattle.rule.specs.Moves.{Move, Row, target}
 use Rattle.rule.proofs.Rows.{same-newest}
 use Rattle.rule.proofs.Moves.{same-target}
 use Rattle.image.specs.Limits.{maxKey, maxNumber}
 use Rattle.image.specs.Nodes.{count}
-use Rattle.image.specs.Sound.{Sound, headerHolds}
-use Rattle.image.specs.Meaning.{IsNode}
+use Rattle.image.specs.Sound.{Sound}
 use Rattle.image.specs.Refusals as is
 use Rattle.image.specs.Refusals.{Answer, given, refused, demand, badNumber, longKey, numberOf}
 use Rattle.image.proofs.Sound.{header-complete}
-use Rattle.table.specs.Refusals.{refusalIs}
-use Rattle.table.specs.Growth.{Grows, Additions}
+use Rattle.table.specs.Growth.{Additions}
 use Rattle.table.proofs.Growth.{begun-sound, additions-grow}
 use Rattle.cursor.specs.Places.{imageOf, entryAt, CursorIn, inside}
-use Rattle.cursor.specs.Walks.{Gives}
 use Rattle.cursor.specs.Moves.{asked, keyGiven, startKey, LeadsTo, RefusedWith, Moves}
 use Rattle.cursor.specs.Rows.{valueIn}
-use Rattle.cursor.specs.Runs.{Tables, entriesOf, cursorOf, refusalOf, Shows, Seen, Moment, seenIn, Run, begun, moved, Alike, Lockstep}
-use Rattle.cursor.specs.declared.places.Side.{Side}
-use Rattle.cursor.specs.declared.places.Side.the-variants.{First, Second}
-use Rattle.cursor.specs.declared.places.Place.{Place}
+use Rattle.cursor.specs.Runs.{Tables, entriesOf, cursorOf, refusalOf, Shows, Moment, seenIn, Run, begun, moved, Alike, Lockstep}
 use Rattle.cursor.specs.declared.places.Cursor.{Cursor}
 use Rattle.cursor.specs.declared.places.Cursor.the-variants.{Nowhere, On}
 use Rattle.cursor.specs.declared.db_iter.Moved.{Moved}

@@ -1,26 +1,26 @@
 -- The addition: on a sound image it refuses what is held already, and else appends exactly this entry; on any image it changes only what it names.
-use Prim.Native.Nat.{ℕ, zero, suc, _+_, _-_, _*_, _<_, _≤_}
+use Prim.Native.Nat.{ℕ, suc, _+_, _-_, _*_, _<_, _≤_}
 use native.Mathlib.Omega.{arith}
 use mathlib.Core.Path.{_≡_, refl, sym, ap, _∙_}
 use mathlib.Core.Logic.{_⊎_, inl, inr, ⊎-elim}
-use mathlib.Core.List.{List, [], _∷_, _++_, List·Memᴰ, List·Memᴰ·append-cases, Memᴰ·append-right}
-use mathlib.Core.Bool.{Bool, true, false, true≢false}
+use mathlib.Core.List.{List, _++_, List·Memᴰ, List·Memᴰ·append-cases, Memᴰ·append-right}
+use mathlib.Core.Bool.{true, false, true≢false}
 use lib.ListN.{length, getD}
 use lib.Dec.{ltb, leb}
 use borrow.Author.Tests.{ltb-true, leb-true, le-leb}
 use Rattle.rule.specs.Lists.{both, All}
 use Rattle.rule.specs.Order.{Ord, equal}
 use Rattle.rule.specs.Entries.{Entry}
-use Rattle.rule.proofs.Lists.{both-true, here}
+use Rattle.rule.proofs.Lists.{both-true}
 use Rattle.rule.proofs.Order.{entries, equal-true}
 use Rattle.image.specs.Limits.{maxKey, maxValue, maxNumber, maxNodes, levels, headerSize}
 use Rattle.image.specs.Words.{Bytes}
-use Rattle.image.specs.Readers.{Read, got, bad}
+use Rattle.image.specs.Readers.{Read, got}
 use Rattle.image.specs.Entries.{Legal, encode}
-use Rattle.image.specs.Nodes.{count, free, slot, sizeOf, Lead, heightOf, entryOf, linksAt, linkPlace, linkOf}
+use Rattle.image.specs.Nodes.{count, free, slot, sizeOf, entryOf, linksAt, linkPlace, linkOf}
 use Rattle.image.specs.Sound.{Sound, Header, headerHolds}
 use Rattle.image.specs.Search.{toStop, turnBy, Found, hit, ends, searched}
-use Rattle.image.specs.Refusals.{Refusal, badImage, badKind, badNumber, longKey, longValue, badHeight, noRoom, duplicate, damaged, Answer, refused, given, demand, reading}
+use Rattle.image.specs.Refusals.{badImage, badKind, badNumber, longKey, longValue, badHeight, noRoom, duplicate, damaged, refused, given, reading}
 use Rattle.image.specs.Add.{withEntry, Grown, hasRoom, placed, add}
 use Rattle.image.proofs.Refusals.{refused-given, demand-given, demand-damaged, reading-given}
 use Rattle.image.proofs.Entries.{encode-bytes}

@@ -1,10 +1,10 @@
 -- Document 01's cases hold of the definitions, by computation; and table T as an image.
-use Prim.Native.Nat.{ℕ, zero, suc, _+_, _<_}
+use Prim.Native.Nat.{ℕ, zero, suc}
 use native.Mathlib.Omega.{arith}
-use mathlib.Core.Path.{_≡_, refl, sym}
-use mathlib.Core.List.{List, [], _∷_, _++_}
+use mathlib.Core.Path.{_≡_, refl}
+use mathlib.Core.List.{List, [], _∷_}
 use mathlib.Core.Bool.{Bool, true, false}
-use lib.ListN.{length, getD, replicate}
+use lib.ListN.{replicate}
 use lib.Dec.{ltb}
 use borrow.Author.Tests.{ltb-true}
 use Rattle.rule.specs.Lists.{both, All}
@@ -16,13 +16,13 @@ use Rattle.image.specs.Entries.{encode, lenAt, keyedAt, restAt}
 use Rattle.image.specs.Nodes.{leadAt, heightOf, entryOf, linkOf}
 use Rattle.image.specs.Sound.{headerHolds, Sound, held}
 use Rattle.image.specs.Search.{find, look}
-use Rattle.image.specs.Refusals.{duplicate, noNode, Answer, refused, given}
+use Rattle.image.specs.Refusals.{duplicate, noNode, refused, given}
 use Rattle.image.specs.Fresh.{freshImage}
-use Rattle.image.specs.Add.{nodeWritten, written, Grown, add, afterwards}
-use Rattle.image.specs.Lookup.{found, deleted, absent, Lookup, get, Presence, presence}
-use Rattle.image.specs.EntryMoves.{Cursor, nowhere, on, first, seek, next, previous, entryMove, partsOn, viewed, keyView, valueView}
+use Rattle.image.specs.Add.{nodeWritten, written, add, afterwards}
+use Rattle.image.specs.Lookup.{found, deleted, absent, get, presence}
+use Rattle.image.specs.EntryMoves.{nowhere, on, first, seek, next, previous, entryMove, partsOn, viewed, keyView, valueView}
 use Rattle.image.specs.Check.{isSound}
-use Rattle.image.specs.BootBench.{put, gone, a, b, c, w, x, y, v, tableT, Right, cases}
+use Rattle.image.specs.BootBench.{put, gone, a, b, c, w, x, y, v, Right, cases}
 use Rattle.image.proofs.Check.{check-sound}
 
 -- P1 to P12

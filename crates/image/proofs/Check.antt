@@ -1,32 +1,31 @@
 -- The check says yes exactly if the image is sound.
-use Prim.Native.Nat.{ℕ, zero, suc, _+_, _-_, _*_, _<_, _≤_}
+use Prim.Native.Nat.{ℕ, zero, suc, _+_, _-_, _<_, _≤_}
 use native.Mathlib.Omega.{arith}
-use native.Mathlib.Decide.{ℕ-discrete, decLt}
-use mathlib.Core.Path.{_≡_, refl, sym, ap, subst, _∙_}
+use native.Mathlib.Decide.{ℕ-discrete}
+use mathlib.Core.Path.{_≡_, refl, sym, ap, _∙_}
 use mathlib.Core.Logic.{_≢_, _↔_}
-use mathlib.Core.List.{List, [], _∷_, _++_, List·Memᴰ, List·Memᴰ·tail}
+use mathlib.Core.List.{List, [], _∷_}
 use mathlib.Core.Bool.{Bool, true, false, true≢false}
-use lib.ListN.{length, getD, set, replicate, length-set, length-replicate}
+use lib.ListN.{length, getD, set, replicate, length-set}
 use lib.Seq.{getD-set-same, getD-set-other}
 use lib.Dec.{ltb, leb, eqb, T}
-use borrow.Author.Tests.{ltb-true, ltb-false, lt-ltb, le-ltb, leb-true, le-leb, eqb-true, eq-eqb}
-use Rattle.rule.specs.Lists.{cond, both, All, Pairwise}
-use Rattle.rule.specs.Order.{Ord, less, isLess}
-use Rattle.rule.specs.Entries.{Entry, order}
+use borrow.Author.Tests.{ltb-true, ltb-false, leb-true, le-leb, eqb-true, eq-eqb}
+use Rattle.rule.specs.Lists.{both, All, Pairwise}
+use Rattle.rule.specs.Order.{less}
+use Rattle.rule.specs.Entries.{order}
 use Rattle.rule.proofs.Order.{entries, less-true}
 use Rattle.rule.proofs.Lists.{both-true, all-nil, all-cons, all-tail, here}
-use Rattle.image.specs.Limits.{levels, maxNodes, maxImage, headerSize}
-use Rattle.image.specs.Words.{Bytes, word}
+use Rattle.image.specs.Limits.{levels, headerSize}
+use Rattle.image.specs.Words.{Bytes}
 use Rattle.image.specs.Readers.{Read, got, bad}
 use Rattle.image.specs.Entries.{encode, entryIn}
-use Rattle.image.specs.Nodes.{count, free, slot, Node, nodeAt, entryPlace, sizeOf, NodeHere, NodeIs, heightOf, entryOf, entryFrom, linkOf}
-use Rattle.image.specs.Chains.{tall, chain, Chained}
-use Rattle.image.specs.Sound.{Sound, Header, headerHolds, placeOf, sizeAt}
+use Rattle.image.specs.Nodes.{count, free, slot, Node, nodeAt, entryPlace, NodeIs, heightOf, entryOf, entryFrom, linkOf}
+use Rattle.image.specs.Chains.{tall, chain}
+use Rattle.image.specs.Sound.{Sound, headerHolds, placeOf, sizeAt}
 use Rattle.image.specs.Check.{ifRead, nodesRun, allMeet, stepped, mayFollow, threads, heads, isSound}
-use Rattle.image.proofs.Readers.{bad-got, got-same}
-use Rattle.image.proofs.Nodes.{nodeFor, node-read, node-sound, height-is}
+use Rattle.image.proofs.Nodes.{node-read, node-sound}
 use Rattle.image.proofs.Chains.{tall-keep, tall-skip}
-use Rattle.image.proofs.Sound.{header-sound, header-complete, place-slot, place-free, linked, positive}
+use Rattle.image.proofs.Sound.{header-sound, header-complete, place-slot, place-free}
 
 -- from node i on, which starts at o, the nodes stand one behind the other
 pub record Run (xs : List ℕ) (i o : ℕ) : Type 0 where

@@ -1,22 +1,22 @@
 -- Laws of lengths and entries: what was written is read, and what is read was written.
-use Prim.Native.Nat.{ℕ, zero, suc, _+_, _-_, _*_, _/_, _%_, _^_, _<_, _≤_}
+use Prim.Native.Nat.{ℕ, zero, suc, _+_, _-_, _*_, _/_, _%_, _<_, _≤_}
 use native.Mathlib.Omega.{arith}
 use native.Mathlib.Numerals.{add-one}
 use mathlib.Core.Path.{_≡_, refl, sym, ap, subst, _∙_}
 use mathlib.Core.List.{List, [], _∷_, _++_}
-use mathlib.Core.Bool.{Bool, true, false, true≢false}
+use mathlib.Core.Bool.{Bool, true, false}
 use lib.ListN.{length, getD, length-append}
 use lib.Dec.{ltb, leb, eqb}
-use borrow.Author.Tests.{ltb-true, ltb-false, lt-ltb, le-ltb, leb-true, leb-false, le-leb, eqb-true, eq-eqb}
+use borrow.Author.Tests.{ltb-true, ltb-false, lt-ltb, le-ltb, leb-true, le-leb, eqb-true, eq-eqb}
 use Rattle.rule.specs.Lists.{cond, both}
 use Rattle.rule.specs.Entries.{Entry}
 use Rattle.rule.proofs.Lists.{both-true}
-use Rattle.image.specs.Limits.{maxKey, maxValue, maxNumber}
+use Rattle.image.specs.Limits.{maxKey, maxValue}
 use Rattle.image.specs.Words.{Bytes, Holds, part, fixed, bytes}
-use Rattle.image.specs.Readers.{Read, got, bad, bind, check}
+use Rattle.image.specs.Readers.{got, check}
 use Rattle.image.specs.Entries.{Legal, varint, tag, encode, Len, lenAt, Keyed, keyedAt, Parts, restAt, partsAt, entryIn}
 use Rattle.image.proofs.Words.{length-part, part-holds, holds-part, holds-left, holds-right, holds-join, holds-fixed, fixed-holds, fixed-below, append-bytes, bytes-bytes}
-use Rattle.image.proofs.Readers.{bad-got, got-same, bind-got, check-got}
+use Rattle.image.proofs.Readers.{got-same, bind-got, check-got}
 
 -- a length that was written is read
 pub len-read : (xs : List ℕ) (end o n : ℕ) → n < 16384 → Holds xs o (varint n) → o + length (varint n) ≤ end → lenAt xs end o ≡ got (record { is = n; after = o + length (varint n) })

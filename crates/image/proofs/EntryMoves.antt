@@ -2,28 +2,27 @@
 use Prim.Native.Nat.{ℕ, zero, suc, _+_, _≤_, _<_}
 use native.Mathlib.Omega.{arith}
 use mathlib.Core.Path.{_≡_, refl, sym, ap, _∙_}
-use mathlib.Core.Logic.{_⊎_, inl, inr, ⊎-elim, _≢_}
-use mathlib.Core.List.{List, [], _∷_, _++_, append-assoc, append-nil, List·Memᴰ, List·Memᴰ·tail, List·Memᴰ·cases-cons, List·Memᴰ·append-cases, Memᴰ·append-left, Memᴰ·append-right}
-use mathlib.Core.Bool.{Bool, true, false, not, true≢false, false≢true}
+use mathlib.Core.Logic.{_⊎_, inl, inr, _≢_}
+use mathlib.Core.List.{List, [], _∷_, _++_, append-assoc, List·Memᴰ, List·Memᴰ·tail, Memᴰ·append-right}
+use mathlib.Core.Bool.{Bool, true, false, not, true≢false}
 use lib.ListN.{length}
-use lib.Dec.{leb}
 use borrow.Author.Tests.{le-leb}
-use Rattle.rule.specs.Lists.{cond, All, Pairwise}
-use Rattle.rule.specs.Order.{Ord, less, equal, greater, compareEntries, isLess, isEqual}
+use Rattle.rule.specs.Lists.{All}
+use Rattle.rule.specs.Order.{Ord, less, equal, greater, compareEntries, isLess}
 use Rattle.rule.specs.Entries.{Entry, order}
 use Rattle.rule.proofs.Lists.{here, all-nil, all-cons, all-append, mem-split, pairwise-middle}
-use Rattle.rule.proofs.Order.{entries, comparePairs, opposite, less-greater, less-true}
+use Rattle.rule.proofs.Order.{entries, comparePairs, less-greater}
 use Rattle.image.specs.Limits.{maxKey, maxNumber, levels}
-use Rattle.image.specs.Readers.{Read, got, bad, bind}
+use Rattle.image.specs.Readers.{got, bind}
 use Rattle.image.specs.Entries.{keyIn, numberIn}
-use Rattle.image.specs.Nodes.{count, free, slot, Lead, leadOf, heightOf, entryOf, linkPlace, linkOf}
+use Rattle.image.specs.Nodes.{count, free, slot, leadOf, heightOf, entryOf, linkOf}
 use Rattle.image.specs.Sound.{Sound, held}
-use Rattle.image.specs.Search.{OnEqual, toStop, toGoDown, turnBy, Found, hit, ends, standing, passed}
-use Rattle.image.specs.Refusals.{Answer, given}
+use Rattle.image.specs.Search.{toStop, toGoDown, turnBy, Found, hit, ends, standing, passed}
+use Rattle.image.specs.Refusals.{given}
 use Rattle.image.specs.EntryMoves.{Cursor, nowhere, on, cursorAt, inTable, EntryMove, first, seek, next, previous, follow, lastBefore, moved, entryMove}
 use Rattle.image.specs.Meaning.{IsNode, Stands, Fitting, Foremost, Leads}
 use Rattle.image.proofs.Nodes.{leadFor, lead-read, node-entry}
-use Rattle.image.proofs.Chains.{last, last-middle, tall-all, Linked, link-lands}
+use Rattle.image.proofs.Chains.{last, last-middle, tall-all, link-lands}
 use Rattle.image.proofs.Chains as chains
 use Rattle.image.proofs.Sound.{header-complete, linked, positive, everywhere}
 use Rattle.image.proofs.Probe.{probe}

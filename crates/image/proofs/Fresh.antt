@@ -2,17 +2,17 @@
 use Prim.Native.Nat.{ℕ, zero, suc, _+_, _*_, _<_, _≤_}
 use native.Mathlib.Omega.{arith}
 use native.Mathlib.Decide.{ℕ-discrete}
-use mathlib.Core.Path.{_≡_, refl, sym, ap, _∙_}
-use mathlib.Core.List.{List, [], _∷_, _++_}
+use mathlib.Core.Path.{_≡_, refl, sym}
+use mathlib.Core.List.{List, [], _++_}
 use lib.ListN.{length, getD, replicate}
-use lib.Seq.{sets, length-sets}
+use lib.Seq.{length-sets}
 use Rattle.rule.proofs.Lists.{all-nil}
 use Rattle.image.specs.Limits.{headerSize, maxImage, levels}
-use Rattle.image.specs.Words.{Bytes, Holds, word, fixed, bytes}
+use Rattle.image.specs.Words.{Holds, word, fixed, bytes}
 use Rattle.image.specs.Nodes.{count, free, linkOf}
 use Rattle.image.specs.Sound.{Sound, held}
 use Rattle.image.specs.Fresh.{freshHeader, freshImage}
-use Rattle.image.proofs.Words.{holds-left, holds-right, holds-word, sets-holds, sets-same, sets-bytes, append-bytes, bytes-bytes}
+use Rattle.image.proofs.Words.{holds-left, holds-right, holds-word, sets-holds, sets-same}
 
 zeros-hold : (xs : List ℕ) (o n i : ℕ) → Holds xs o (replicate n 0) → o ≤ i → i < o + n → getD xs i 0 ≡ 0
 zeros-hold xs o zero i h p q = absurd (omega arith)

@@ -1,11 +1,11 @@
 -- An entry put into a sound image, behind the nodes that a search recorded: the image is sound, keeps its nodes, and has one more.
-use Prim.Native.Nat.{ℕ, zero, suc, _+_, _-_, _*_, _^_, _<_, _≤_}
+use Prim.Native.Nat.{ℕ, zero, suc, _+_, _-_, _*_, _<_, _≤_}
 use native.Mathlib.Omega.{arith}
-use native.Mathlib.Decide.{ℕ-discrete, decLt}
-use mathlib.Core.Path.{_≡_, refl, sym, ap, ap₂, subst, _∙_}
+use native.Mathlib.Decide.{ℕ-discrete}
+use mathlib.Core.Path.{_≡_, refl, sym, ap, _∙_}
 use mathlib.Core.Logic.{_⊎_, inl, inr, ⊎-elim, _≢_}
 use mathlib.Core.List.{List, [], _∷_, _++_, List·Memᴰ, List·Memᴰ·cases-cons, Memᴰ·append-left, Memᴰ·append-right}
-use mathlib.Core.Bool.{Bool, true, false}
+use mathlib.Core.Bool.{true, false}
 use lib.ListN.{length, getD, length-append}
 use Rattle.rule.specs.Lists.{All, Pairwise}
 use Rattle.rule.specs.Order.{less}
@@ -14,18 +14,18 @@ use Rattle.rule.proofs.Lists.{all-left, all-append, all-cons}
 use Rattle.image.specs.Limits.{levels, maxNodes, headerSize}
 use Rattle.image.specs.Words.{word}
 use Rattle.image.specs.Entries.{Legal, encode}
-use Rattle.image.specs.Nodes.{count, free, slot, sizeOf, NodeHere, NodeIs, heightOf, entryOf, linksAt, linkPlace, linkOf}
+use Rattle.image.specs.Nodes.{count, free, slot, sizeOf, NodeIs, heightOf, entryOf, linkPlace, linkOf}
 use Rattle.image.specs.Chains.{tall}
 use Rattle.image.specs.Sound.{Sound, Header, placeOf, sizeAt, held, heldUpTo}
 use Rattle.image.specs.Add.{withEntry}
 use Rattle.image.proofs.Words.{word-same}
 use Rattle.image.proofs.Nodes.{links-node, height-is, entry-is, node-kept}
-use Rattle.image.proofs.Chains.{last, last-mem, nextTall, tall-mem, tall-ext, Linked, linked-chained, link-lands}
+use Rattle.image.proofs.Chains.{last, last-mem, tall-mem, tall-ext, Linked, linked-chained, link-lands}
 use Rattle.image.proofs.Insert.{Inserted, insert-linked, linked-ext, linked-last}
 use Rattle.image.proofs.Sound.{place-slot, place-free, ends-free, linked, pairwise-ext}
 use Rattle.image.proofs.Links.{Lands, place-low, place-high, link-apart, link-outside}
 use Rattle.image.proofs.Probe.{before, exact, insert-ascending}
-use Rattle.image.proofs.Write.{Fits, Written, NodeWritten, is-written}
+use Rattle.image.proofs.Write.{Fits, Written, is-written}
 
 -- there is room for one more node
 pub record Room (xs : List ℕ) (e : Entry) (h : ℕ) : Type 0 where

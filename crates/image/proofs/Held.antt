@@ -6,19 +6,15 @@ use native.Mathlib.Decide.{ℕ-discrete}
 use mathlib.Core.Path.{_≡_, refl, sym, ap, _∙_}
 use mathlib.Core.Logic.{_⊎_, inl, inr, ⊎-elim, _≢_}
 use mathlib.Core.List.{List, [], _∷_, _++_, map, map-append, List·Memᴰ, List·Memᴰ·head, List·Memᴰ·not-nil, List·Memᴰ·cases-cons, List·Memᴰ·append-cases, Memᴰ·append-left, Memᴰ·append-right, Memᴰ·cast, Memᴰ·map, Memᴰ·of-map}
-use mathlib.Core.Bool.{Bool}
-use lib.ListN.{length, length-append}
 use Rattle.rule.specs.Lists.{cond, Maybe, none, some, All}
-use Rattle.rule.specs.Order.{Ord, less, equal, greater, compareKeys, isLess, isEqual}
+use Rattle.rule.specs.Order.{Ord, compareKeys, isLess, isEqual}
 use Rattle.rule.specs.Entries.{Entry, Ascending, Agree}
-use Rattle.rule.specs.Rows.{newest, row, shown}
-use Rattle.rule.specs.Moves.{Move, target}
+use Rattle.rule.specs.Rows.{newest}
 use Rattle.rule.proofs.Rows.{ascending-single, same-newest, front, newest-front}
-use Rattle.rule.proofs.Moves.{same-target}
-use Rattle.rule.proofs.Lists.{here, all-map, pairwise-on, all-left, all-right}
+use Rattle.rule.proofs.Lists.{here, all-map, pairwise-on, all-right}
 use Rattle.image.specs.Nodes.{count, entryOf}
 use Rattle.image.specs.Sound.{Sound, heldUpTo, held}
-use Rattle.image.specs.Search.{OnEqual, turnBy, Found, standing}
+use Rattle.image.specs.Search.{OnEqual, turnBy, standing}
 use Rattle.image.proofs.Chains.{first}
 use Rattle.image.proofs.Probe.{probe}
 use Rattle.image.proofs.Sound.{everywhere, nonzero}
@@ -62,12 +58,6 @@ module _ (xs : List ℕ) (s : Sound xs) where
 
   pub held-newest : (k : List ℕ) (t : ℕ) → newest k t (held xs) ≡ newest k t inOrder
   held-newest k t = sym (same-newest k t inOrder (held xs) (held-agree t) (ascending-single t inOrder ordered))
-
-  pub held-row : (k : List ℕ) (t : ℕ) → row k t (held xs) ≡ row k t inOrder
-  held-row k t = ap shown (held-newest k t)
-
-  pub held-target : (m : Move) (t : ℕ) (c : Maybe (List ℕ)) → target m t c (held xs) ≡ target m t c inOrder
-  held-target m t c = sym (same-target m t c inOrder (held xs) (held-agree t) (ascending-single t inOrder ordered))
 
   front-is : (k : List ℕ) (post : List ℕ) → All (λ x. x ≢ 0) post → front k (map (entryOf xs) post) ≡ entryIf xs k (first post)
   front-is k [] z = refl

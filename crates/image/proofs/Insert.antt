@@ -2,12 +2,12 @@
 use Prim.Native.Nat.{ℕ, suc, _<_}
 use native.Mathlib.Omega.{arith}
 use mathlib.Core.Path.{_≡_, refl, sym, ap, _∙_}
-use mathlib.Core.Logic.{⊎-elim, _≢_}
-use mathlib.Core.List.{List, [], _∷_, _++_, List·Memᴰ, List·Memᴰ·tail, List·Memᴰ·cases-cons, Memᴰ·cast, Memᴰ·append-left, Memᴰ·append-right}
+use mathlib.Core.Logic.{_≢_}
+use mathlib.Core.List.{List, [], _∷_, _++_, List·Memᴰ, List·Memᴰ·tail, Memᴰ·cast, Memᴰ·append-left, Memᴰ·append-right}
 use mathlib.Core.Bool.{Bool, true, false}
 use lib.ListN.{length, length-append}
 use lib.Dec.{ltb, eqb}
-use borrow.Author.Tests.{ltb-true, ltb-false, lt-ltb, eq-eqb, ne-eqb}
+use borrow.Author.Tests.{ltb-true, ltb-false}
 use Rattle.rule.specs.Lists.{cond, All}
 use Rattle.rule.proofs.Lists.{Distinct, here, all-cons, all-tail, all-right, mem-split}
 use Rattle.image.specs.Chains.{chain, tall, Chained}
@@ -104,21 +104,6 @@ module _ (top : ℕ) (height : ℕ → ℕ) (link link′ : ℕ → ℕ → ℕ)
 module _ (height : ℕ → ℕ) (link : ℕ → ℕ → ℕ) (m : ℕ) (pre post : List ℕ) where
   abbrev pub inserted : ℕ → ℕ → ℕ
   inserted i l = cond (ltb l (height m)) (cond (eqb i m) (nextTall height l post) (cond (eqb i (last 0 (tall height l pre))) m (link i l))) (link i l)
-
-  pub inserted-is : (top : ℕ) → m ≢ 0 → (List·Memᴰ m (pre ++ post) → ⊥) → Inserted top height link inserted m pre post
-  inserted-is top mz new = record {
-    fresh = λ l p h. rw (lt-ltb l (height m) h, eq-eqb m m refl);
-    joined = λ l p h. rw (lt-ltb l (height m) h, ne-eqb (last 0 (tall height l pre)) m (other l), eq-eqb (last 0 (tall height l pre)) (last 0 (tall height l pre)) refl);
-    headKept = λ l p q. same l 0 (λ z. mz (sym z)) q (ltb l (height m)) refl;
-    kept = λ l p i n _ q. same l i (λ e. new (Memᴰ·cast (sym e) n)) q (ltb l (height m)) refl;
-  }
-    where
-      same : (l i : ℕ) → i ≢ m → (l < height m → i ≢ last 0 (tall height l pre)) → (b : Bool) → ltb l (height m) ≡ b → inserted i l ≡ link i l
-      same l i n q true e = rw (e, ne-eqb i m n, ne-eqb i (last 0 (tall height l pre)) (q (ltb-true l (height m) e)))
-      same l i n q false e = rw e
-
-      other : (l : ℕ) → last 0 (tall height l pre) ≢ m
-      other l e = ⊎-elim (λ z. mz (sym e ∙ z)) (λ n. new (Memᴰ·cast (sym e) (Memᴰ·append-left post ((tall-mem height l pre _ n) .0)))) (List·Memᴰ·cases-cons (last-mem 0 (tall height l pre)))
 
 -- the links of a list depend only on the heights of its members, and the list only on their links
 pub linked-ext : (top : ℕ) (g h : ℕ → ℕ) (f k : ℕ → ℕ → ℕ) (xs : List ℕ) → All (λ x. g x ≡ h x) xs → ((l : ℕ) → l < top → f 0 l ≡ k 0 l) → ((l : ℕ) → l < top → All (λ x. l < g x → f x l ≡ k x l) xs)

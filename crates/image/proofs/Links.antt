@@ -1,12 +1,11 @@
 -- The links of a sound image stand apart from one another and from the rest of it.
-use Prim.Native.Nat.{ℕ, zero, suc, _+_, _-_, _*_, _<_, _≤_}
+use Prim.Native.Nat.{ℕ, _+_, _-_, _<_, _≤_}
 use native.Mathlib.Omega.{arith}
 use native.Mathlib.Decide.{ℕ-discrete, decLt}
-use mathlib.Core.Path.{_≡_, refl, sym, ap, _∙_}
+use mathlib.Core.Path.{_≡_, sym, ap, _∙_}
 use mathlib.Core.Logic.{_⊎_, inl, inr, _≢_}
 use mathlib.Core.List.{List}
-use lib.ListN.{length}
-use Rattle.image.specs.Limits.{levels, headerSize}
+use Rattle.image.specs.Limits.{levels}
 use Rattle.image.specs.Words.{Apart}
 use Rattle.image.specs.Nodes.{count, free, slot, entryPlace, heightOf, linksAt, linkPlace}
 use Rattle.image.specs.Sound.{Sound, sizeAt}

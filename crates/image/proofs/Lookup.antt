@@ -2,29 +2,29 @@
 use Prim.Native.Nat.{ℕ, zero, suc, _+_, _≤_}
 use native.Mathlib.Omega.{arith}
 use mathlib.Core.Path.{_≡_, refl, sym, ap, _∙_}
-use mathlib.Core.Logic.{_⊎_, inl, inr, ⊎-elim, _↔_}
-use mathlib.Core.List.{List, [], _∷_, _++_, List·Memᴰ, Memᴰ·append-right, List·Memᴰ·append-cases}
+use mathlib.Core.Logic.{_⊎_, inl, inr, _↔_}
+use mathlib.Core.List.{List, [], _∷_, _++_, Memᴰ·append-right}
 use mathlib.Core.Bool.{Bool, true, false, true≢false}
 use lib.ListN.{length}
-use lib.Dec.{leb, eqb}
+use lib.Dec.{eqb}
 use borrow.Author.Tests.{le-leb, eqb-true, eqb-false, eq-eqb}
-use Rattle.rule.specs.Lists.{cond, Maybe, none, some, All}
+use Rattle.rule.specs.Lists.{cond, none, some}
 use Rattle.rule.specs.Order.{Ord, less, equal, greater, compareKeys, isLess, isEqual}
-use Rattle.rule.specs.Entries.{Entry, valueKind, deletionKind}
+use Rattle.rule.specs.Entries.{Entry, valueKind}
 use Rattle.rule.specs.Rows.{newest}
 use Rattle.rule.proofs.Lists.{here}
 use Rattle.image.specs.Limits.{maxKey, maxNumber, levels}
-use Rattle.image.specs.Readers.{Read, got, bad, bind}
+use Rattle.image.specs.Readers.{got}
 use Rattle.image.specs.Entries.{entryIn}
 use Rattle.image.specs.Nodes.{count, free, slot, Node, nodeAt, heightOf, entryOf}
-use Rattle.image.specs.Sound.{Sound, Header, headerHolds, held}
+use Rattle.image.specs.Sound.{Sound, held}
 use Rattle.image.specs.Search.{toStop, turnBy, Found, hit, ends, searched, looksOf, standing}
-use Rattle.image.specs.Refusals.{Answer, given, reading}
+use Rattle.image.specs.Refusals.{given}
 use Rattle.image.specs.Lookup.{Looked, found, deleted, absent, Lookup, saysOf, saidAt, get, Presence, heldAt, presence}
 use Rattle.image.specs.Meaning.{IsNode, Tells, IsHeld}
 use Rattle.image.proofs.Nodes.{nodeFor, node-entry}
 use Rattle.image.proofs.Chains.{first}
-use Rattle.image.proofs.Sound.{header-complete, sound-node, everywhere}
+use Rattle.image.proofs.Sound.{header-complete, sound-node}
 use Rattle.image.proofs.Search.{isOnward, Searched, search-sound, searched-looks}
 use Rattle.image.proofs.Held.{entryIf, lookup-right, held-has, held-from, held-single}
 use Rattle.image.proofs.Add.{Duplicates, IsDuplicate, IsNew, search-decides}

@@ -1,20 +1,19 @@
 -- Laws of nodes: one that stands there is read, what is read stands there, and what keeps it.
-use Prim.Native.Nat.{ℕ, zero, suc, _+_, _-_, _*_, _/_, _%_, _^_, _<_, _≤_}
+use Prim.Native.Nat.{ℕ, zero, suc, _+_, _-_, _≤_}
 use native.Mathlib.Omega.{arith}
 use mathlib.Core.Path.{_≡_, refl, sym, ap, subst, _∙_}
-use mathlib.Core.List.{List, [], _∷_, _++_}
-use mathlib.Core.Bool.{Bool, true, false}
-use lib.ListN.{length, getD}
-use lib.Dec.{ltb, leb, eqb}
-use borrow.Author.Tests.{ltb-true, lt-ltb, leb-true, le-leb}
+use mathlib.Core.List.{List}
+use lib.ListN.{length}
+use lib.Dec.{leb}
+use borrow.Author.Tests.{leb-true, le-leb}
 use Rattle.rule.specs.Lists.{both}
 use Rattle.rule.specs.Entries.{Entry}
 use Rattle.rule.proofs.Lists.{both-true}
 use Rattle.image.specs.Limits.{headerSize, levels}
-use Rattle.image.specs.Words.{Bytes, Same, Holds, word}
-use Rattle.image.specs.Readers.{Read, got, bad, bind, check}
-use Rattle.image.specs.Entries.{Legal, encode, Keyed, Parts, keyedAt, restAt, entryIn}
-use Rattle.image.specs.Nodes.{count, free, slot, slotPlace, entryPlace, sizeOf, Lead, leadAt, Node, nodeFrom, leadOf, nodeAt, entryFrom, heightOf, entryOf, linksAt, linkPlace, linkOf, NodeHere, NodeIs}
+use Rattle.image.specs.Words.{Bytes, Same, word}
+use Rattle.image.specs.Readers.{got, bind}
+use Rattle.image.specs.Entries.{encode, Keyed, Parts, keyedAt, restAt, entryIn}
+use Rattle.image.specs.Nodes.{free, slot, slotPlace, entryPlace, sizeOf, Lead, leadAt, Node, nodeFrom, entryFrom, heightOf, entryOf, linksAt, NodeHere, NodeIs}
 use Rattle.image.proofs.Words.{word-same, holds-same}
 use Rattle.image.proofs.Readers.{got-same, bind-got, check-got}
 use Rattle.image.proofs.Entries.{keyedOf, partsOf, keyed-read, rest-read, parts-entry, Fills, parts-sound, keyed-inside, rest-inside}
@@ -197,7 +196,3 @@ node-kept xs ys i h e len le a b c n = (same, rw same (node-same xs ys (free xs)
   where
     same : slot ys i ≡ slot xs i
     same = rw len (sym (word-same xs ys (slotPlace xs i) a))
-
--- so it is read as before
-pub nodeAt-kept : (xs ys : List ℕ) (i h : ℕ) (e : Entry) → NodeIs xs i h e → NodeIs ys i h e → slot ys i ≡ slot xs i → nodeAt ys i ≡ nodeAt xs i
-nodeAt-kept xs ys i h e m n f = node-read ys (free ys) (slot ys i) h e n ∙ ap {B = Read Node} (λ (o : ℕ). got (nodeFor o h e)) f ∙ sym (node-read xs (free xs) (slot xs i) h e m)

@@ -1,8 +1,8 @@
 -- The search of an image: bounded on any bytes, and on a sound image the search of a skip list.
-use Prim.Native.Nat.{ℕ, zero, suc, _+_, _-_, _*_, _/_, _<_, _≤_}
+use Prim.Native.Nat.{ℕ, zero, suc, _+_, _-_, _<_, _≤_}
 use native.Mathlib.Omega.{arith}
 use native.Mathlib.Decide.{ℕ-discrete}
-use mathlib.Core.Path.{_≡_, refl, sym, ap, subst, _∙_}
+use mathlib.Core.Path.{_≡_, refl, sym, ap, _∙_}
 use mathlib.Core.Logic.{_⊎_, inl, inr, _≢_}
 use mathlib.Core.List.{List, [], _∷_, _++_, List·Memᴰ}
 use mathlib.Core.Bool.{Bool, true, false, true≢false}
@@ -10,22 +10,22 @@ use lib.ListN.{length, getD, set, replicate, length-append, length-set}
 use lib.Seq.{getD-set-same, getD-set-other}
 use lib.Dec.{ltb, leb}
 use borrow.Author.Tests.{lt-ltb, le-leb, leb-true, ltb-true}
-use Rattle.rule.specs.Lists.{cond, All, Pairwise}
+use Rattle.rule.specs.Lists.{cond, All}
 use Rattle.rule.specs.Order.{Ord, less, equal, greater, compareEntries, isLess, isEqual}
 use Rattle.rule.specs.Entries.{Entry, order}
 use Rattle.rule.proofs.Order.{entries, comparePairs, less-equal}
 use Rattle.rule.proofs.Lists.{here, part, pairwise-map}
 use Rattle.image.specs.Limits.{levels}
-use Rattle.image.specs.Readers.{Read, got, bad, bind, check}
+use Rattle.image.specs.Readers.{Read, got, bad, check}
 use Rattle.image.specs.Nodes.{count, free, slot, Lead, leadOf, heightOf, entryOf, linkPlace, linkOf}
 use Rattle.image.specs.Chains.{tall}
 use Rattle.image.specs.Sound.{Sound}
-use Rattle.image.specs.Search.{Turn, onward, halt, below, OnEqual, toStop, toGoDown, toPass, turnBy, Found, hit, ends, ask, meet, look, find, searched, looksOf, standing}
-use Rattle.image.proofs.Readers.{bad-got, got-same, bind-got, check-got}
+use Rattle.image.specs.Search.{Turn, onward, halt, below, OnEqual, toStop, toGoDown, toPass, turnBy, Found, hit, ends, ask, meet, look, searched, looksOf, standing}
+use Rattle.image.proofs.Readers.{got-same, bind-got, check-got}
 use Rattle.image.proofs.Nodes.{lead-read, node-entry}
 use Rattle.image.proofs.Sound.{linked, nonzero, positive}
-use Rattle.image.proofs.Chains.{first, last, Linked, link-lands}
-use Rattle.image.proofs.Machine.{Keeps, find-keeps, find-looks, Records, find-records}
+use Rattle.image.proofs.Chains.{first, last, link-lands}
+use Rattle.image.proofs.Machine.{find-keeps, find-looks, Records, find-records}
 use Rattle.image.proofs.SkipSearch as skip
 use Rattle.image.proofs.SkipSearch.{turn, Parted, Right, stopsAt, none-stops}
 use Rattle.image.proofs.Probe.{probe, before, exact, probe-parted}

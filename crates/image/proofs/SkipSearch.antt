@@ -22,9 +22,6 @@ module _ (pass stop : ℕ → Bool) where
   turn zero = below
   turn (suc x) = cond (pass (suc x)) onward (cond (stop (suc x)) halt below)
 
-  pub turn-none : (x : ℕ) → x ≡ 0 → turn x ≡ below
-  turn-none x e = rw e
-
   pub turn-pass : (x : ℕ) → x ≢ 0 → pass x ≡ true → turn x ≡ onward
   turn-pass zero h e = absurd (h refl)
   turn-pass (suc x) h e = rw e

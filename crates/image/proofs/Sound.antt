@@ -2,23 +2,23 @@
 use Prim.Native.Nat.{ℕ, zero, suc, _+_, _-_, _*_, _<_, _≤_}
 use native.Mathlib.Omega.{arith}
 use native.Mathlib.Decide.{ℕ-discrete}
-use mathlib.Core.Path.{_≡_, refl, sym, ap, _∙_}
+use mathlib.Core.Path.{_≡_}
 use mathlib.Core.Logic.{_≢_}
-use mathlib.Core.List.{List, [], _∷_, _++_, List·Memᴰ, List·Memᴰ·tail}
-use mathlib.Core.Bool.{Bool, true, false}
+use mathlib.Core.List.{List, [], _∷_, List·Memᴰ, List·Memᴰ·tail}
+use mathlib.Core.Bool.{true}
 use lib.ListN.{length}
 use lib.Dec.{leb, eqb}
 use borrow.Author.Tests.{le-leb, lt-leb, leb-true, eqb-true, eq-eqb}
-use Rattle.rule.specs.Lists.{cond, both, All, Pairwise}
+use Rattle.rule.specs.Lists.{both, All, Pairwise}
 use Rattle.rule.specs.Order.{less}
 use Rattle.rule.specs.Entries.{Entry, order}
 use Rattle.rule.proofs.Lists.{both-true, Distinct, all-tail, here, pigeonhole}
 use Rattle.image.specs.Limits.{headerSize, maxImage, maxNodes, levels}
 use Rattle.image.specs.Words.{word}
 use Rattle.image.specs.Readers.{got}
-use Rattle.image.specs.Nodes.{count, free, slot, Lead, leadOf, nodeAt, heightOf, entryOf, linkOf}
+use Rattle.image.specs.Nodes.{count, free, slot, nodeAt, heightOf, entryOf, linkOf}
 use Rattle.image.specs.Sound.{Header, headerHolds, placeOf, sizeAt, Sound}
-use Rattle.image.proofs.Nodes.{leadFor, nodeFor, lead-read, node-read}
+use Rattle.image.proofs.Nodes.{nodeFor, node-read}
 use Rattle.image.proofs.Chains.{Linked, chained-linked}
 use Rattle.image.proofs.Insert.{linked-distinct}
 

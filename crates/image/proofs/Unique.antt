@@ -3,19 +3,19 @@ use Prim.Native.Nat.{ℕ, zero, suc, _+_, _-_, _*_, _/_, _<_, _≤_}
 use native.Mathlib.Omega.{arith}
 use native.Mathlib.Decide.{ℕ-discrete, decLt}
 use mathlib.Core.Path.{_≡_, refl, sym, ap, ap₂, subst, _∙_}
-use mathlib.Core.Logic.{_⊎_, inl, inr, ⊎-elim, _≢_}
-use mathlib.Core.List.{List, [], _∷_, _++_, List·Memᴰ, List·Memᴰ·head, List·Memᴰ·tail, List·Memᴰ·not-nil, List·Memᴰ·cases-cons, Memᴰ·cast}
+use mathlib.Core.Logic.{_⊎_, inl, inr, ⊎-elim}
+use mathlib.Core.List.{List, [], _∷_, List·Memᴰ, List·Memᴰ·tail, List·Memᴰ·not-nil, List·Memᴰ·cases-cons}
 use lib.ListN.{length, getD}
 use Rattle.rule.specs.Lists.{All, Pairwise}
-use Rattle.rule.specs.Order.{Ord, less, equal, greater}
+use Rattle.rule.specs.Order.{less}
 use Rattle.rule.specs.Entries.{Entry, order}
-use Rattle.rule.proofs.Order.{entries, flip}
-use Rattle.rule.proofs.Lists.{here, all-tail}
-use Rattle.image.specs.Limits.{levels, headerSize}
-use Rattle.image.specs.Words.{Bytes, Same, Holds, word}
+use Rattle.rule.proofs.Order.{entries}
+use Rattle.rule.proofs.Lists.{here}
+use Rattle.image.specs.Limits.{levels}
+use Rattle.image.specs.Words.{Bytes, word}
 use Rattle.image.specs.Entries.{encode}
-use Rattle.image.specs.Nodes.{count, free, slot, slotPlace, entryPlace, NodeHere, heightOf, entryOf, linksAt, linkPlace, linkOf}
-use Rattle.image.specs.Sound.{Sound, Header, placeOf, sizeAt}
+use Rattle.image.specs.Nodes.{count, free, slot, slotPlace, entryPlace, NodeHere, heightOf, entryOf, linkOf}
+use Rattle.image.specs.Sound.{Sound, placeOf, sizeAt}
 use Rattle.image.proofs.Words.{word-unique, holds-both}
 use Rattle.image.proofs.Nodes.{links-node}
 use Rattle.image.proofs.Chains.{Linked}

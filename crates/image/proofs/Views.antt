@@ -1,14 +1,13 @@
 -- What the views show on a sound image: the node's own entry.
-use Prim.Native.Nat.{ℕ, _%_, _≤_}
-use native.Mathlib.Omega.{arith}
-use mathlib.Core.Path.{_≡_, refl, sym, ap, _∙_}
+use Prim.Native.Nat.{ℕ}
+use mathlib.Core.Path.{_≡_, refl, ap, _∙_}
 use mathlib.Core.List.{List, []}
 use mathlib.Core.Bool.{Bool, true, false}
 use lib.Dec.{eqb}
 use borrow.Author.Tests.{le-leb}
 use Rattle.rule.specs.Lists.{cond, some}
 use Rattle.rule.specs.Entries.{Entry, valueKind}
-use Rattle.image.specs.Entries.{Parts, entryIn, numberIn}
+use Rattle.image.specs.Entries.{Parts, entryIn}
 use Rattle.image.specs.Nodes.{count, entryOf}
 use Rattle.image.specs.Sound.{Sound}
 use Rattle.image.specs.Refusals.{given}

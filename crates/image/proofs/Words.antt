@@ -7,17 +7,11 @@ use native.Mathlib.Numerals.{add-one, add-two, add-three, add-four}
 use mathlib.Core.Path.{_≡_, refl, sym, ap, ap₂, _∙_}
 use mathlib.Core.Logic.{_≢_}
 use mathlib.Core.List.{List, [], _∷_, _++_}
-use lib.ListN.{length, getD, set, take, drop, length-take, length-drop, length-set}
+use lib.ListN.{length, getD, set, take, length-take, length-drop, length-set}
 use lib.Seq.{sets, length-sets, getD-set-same, getD-set-other, drop-cons, length-take-le, take-suc}
 use Rattle.image.specs.Words.{Bytes, Same, Holds, part, fixed, bytes, word, putWord, putWords, Apart}
 
 -- ---- what stands where
-
-pub same-part : (xs ys : List ℕ) (a b c d : ℕ) → a ≤ c → d ≤ b → Same xs ys a b → Same xs ys c d
-same-part xs ys a b c d p q s i h k = s i (omega arith) (omega arith)
-
-pub same-sym : (xs ys : List ℕ) (a b : ℕ) → Same xs ys a b → Same ys xs a b
-same-sym xs ys a b s i h k = sym (s i h k)
 
 pub holds-same : (xs ys : List ℕ) (o : ℕ) (bs : List ℕ) → Same xs ys o (o + length bs) → Holds xs o bs → Holds ys o bs
 holds-same xs ys o [] s h = tt
@@ -140,14 +134,6 @@ word-same xs ys o s = fixed-same 4 xs ys o s
 pub holds-word : (xs : List ℕ) (o v : ℕ) → v < 256 ^ 4 → Holds xs o (bytes 4 v) → word xs o ≡ v
 unfolding word
 holds-word xs o v l h = holds-fixed 4 xs o v l h
-
-pub word-holds : (xs : List ℕ) (o : ℕ) → Bytes xs → Holds xs o (bytes 4 (word xs o))
-unfolding word
-word-holds xs o b = fixed-holds 4 xs o b
-
-pub word-below : (xs : List ℕ) (o : ℕ) → Bytes xs → word xs o < 256 ^ 4
-unfolding word
-word-below xs o b = fixed-below 4 xs o b
 
 pub word-unique : (xs ys : List ℕ) (o : ℕ) → Bytes xs → Bytes ys → word xs o ≡ word ys o → Same xs ys o (o + 4)
 unfolding word

@@ -1,11 +1,11 @@
 -- The bytes that an addition writes: what stands there afterwards, and what is kept.
-use Prim.Native.Nat.{ℕ, zero, suc, _+_, _-_, _*_, _^_, _<_, _≤_}
+use Prim.Native.Nat.{ℕ, suc, _+_, _-_, _*_, _^_, _<_, _≤_}
 use native.Mathlib.Omega.{arith}
 use native.Mathlib.Nat.{add-zero}
-use mathlib.Core.Path.{_≡_, refl, sym, ap, subst, _∙_}
+use mathlib.Core.Path.{_≡_, refl, sym, ap, _∙_}
 use mathlib.Core.Logic.{_≢_}
-use mathlib.Core.List.{List, [], _∷_, _++_}
-use lib.ListN.{length, getD, length-append}
+use mathlib.Core.List.{List, _++_}
+use lib.ListN.{length, getD}
 use lib.Seq.{sets, length-sets}
 use Rattle.rule.specs.Entries.{Entry}
 use Rattle.image.specs.Limits.{headerSize}

@@ -4,7 +4,7 @@ use mathlib.Core.Path.{_≡_}
 use mathlib.Core.List.{List, [], _∷_, _++_}
 use lib.ListN.{length, replicate, take}
 use Rattle.rule.specs.Lists.{Maybe, none, some}
-use Rattle.rule.specs.Order.{Ord, less, compareKeys}
+use Rattle.rule.specs.Order.{less, compareKeys}
 use Rattle.rule.specs.Entries.{Entry, together, valueKind, deletionKind}
 use Rattle.rule.specs.Moves.{Move, first, next, previous, Row, rowsAfter}
 use Rattle.image.specs.Entries.{encode}

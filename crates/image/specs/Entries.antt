@@ -7,7 +7,7 @@ use Rattle.rule.specs.Lists.{cond, both}
 use Rattle.rule.specs.Entries.{Entry}
 use Rattle.image.specs.Limits.{maxKey, maxValue, maxNumber}
 use Rattle.image.specs.Words.{part, fixed, bytes}
-use Rattle.image.specs.Readers.{Read, got, bad, bind, check}
+use Rattle.image.specs.Readers.{Read, got, bind, check}
 
 -- an entry within the limits
 pub record Legal (e : Entry) : Type 0 where

@@ -8,7 +8,7 @@ use Rattle.rule.specs.Lists.{cond, both, Maybe, none, some}
 use Rattle.rule.specs.Entries.{valueKind}
 use Rattle.image.specs.Limits.{maxKey, maxNumber}
 use Rattle.image.specs.Words.{part}
-use Rattle.image.specs.Readers.{Read, got, bad, bind, check}
+use Rattle.image.specs.Readers.{Read, got, bind, check}
 use Rattle.image.specs.Entries.{Parts, keyIn, numberIn}
 use Rattle.image.specs.Nodes.{count, leadOf, nodeAt, linkPlace, linkOf}
 use Rattle.image.specs.Sound.{headerHolds}
@@ -67,10 +67,6 @@ allowed previous a = a
 -- the call; refusals 1, 10, 3, 4, 9. A refused move hands back the cursor that it was handed
 unfoldable pub entryMove : List ℕ → EntryMove → Cursor → Answer Cursor
 entryMove xs m c = demand (headerHolds xs) badImage (demand (inTable xs c) noNode (allowed m (reading (moved xs m c) given)))
-
-abbrev pub cursorAfter : Cursor → Answer Cursor → Cursor
-cursorAfter c (refused r) = c
-cursorAfter c (given d) = d
 
 -- ---- what stands at a cursor
 

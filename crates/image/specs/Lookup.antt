@@ -1,14 +1,14 @@
 -- Lookup and presence in one table, on any bytes: document 01, 'Looking, moving, showing'.
 use Prim.Native.Nat.{ℕ, zero, suc}
 use mathlib.Core.List.{List}
-use mathlib.Core.Bool.{Bool, true, false}
+use mathlib.Core.Bool.{Bool, false}
 use lib.ListN.{length}
 use lib.Dec.{leb, eqb}
 use Rattle.rule.specs.Lists.{cond}
 use Rattle.rule.specs.Order.{compareKeys, isEqual}
 use Rattle.rule.specs.Entries.{Entry, valueKind}
 use Rattle.image.specs.Limits.{maxKey, maxNumber}
-use Rattle.image.specs.Readers.{Read, got, bad, bind}
+use Rattle.image.specs.Readers.{Read, got, bind}
 use Rattle.image.specs.Entries.{entryIn}
 use Rattle.image.specs.Nodes.{nodeAt}
 use Rattle.image.specs.Sound.{headerHolds}

@@ -4,7 +4,7 @@ use mathlib.Core.Path.{_≡_}
 use mathlib.Core.List.{List, List·Memᴰ}
 use mathlib.Core.Bool.{Bool, true, false, not}
 use lib.ListN.{length}
-use Rattle.rule.specs.Lists.{Maybe, none, some, All}
+use Rattle.rule.specs.Lists.{none, some, All}
 use Rattle.rule.specs.Order.{Ord, compareEntries, isLess}
 use Rattle.rule.specs.Entries.{Entry, order, valueKind, deletionKind}
 use Rattle.rule.specs.Rows.{newest}

@@ -1,7 +1,7 @@
 -- Header fields, slots, nodes and links: document 01, 'The image'.
 use Prim.Native.Nat.{ℕ, zero, suc, _+_, _-_, _*_, _≤_}
 use mathlib.Core.Path.{_≡_}
-use mathlib.Core.List.{List, [], _∷_}
+use mathlib.Core.List.{List, []}
 use lib.ListN.{length}
 use lib.Dec.{leb}
 use Rattle.rule.specs.Lists.{both}

@@ -1,7 +1,6 @@
 -- Numbered refusals: document 01's table.
 use Prim.Native.Nat.{ℕ}
 use mathlib.Core.Bool.{Bool, true, false}
-use mathlib.Core.List.{List}
 use Rattle.image.specs.Readers.{Read, got, bad}
 
 -- in the table's order

@@ -1,17 +1,17 @@
 -- What decides the key that a move ends on: how it is characterised, and that order, split and later numbers do not count.
 -- An order of keys is given by its comparison, so that each law serves upward and downward.
-use Prim.Native.Nat.{ℕ, _≤_}
+use Prim.Native.Nat.{ℕ}
 use mathlib.Core.Path.{_≡_, refl, sym, ap, subst, _∙_}
 use mathlib.Core.Logic.{⊎-elim}
-use mathlib.Core.List.{List, [], _∷_, _++_, List·Memᴰ, List·Memᴰ·tail, Memᴰ·append-right}
-use mathlib.Core.Bool.{Bool, true, false, not, true≢false, false≢true}
+use mathlib.Core.List.{List, [], _∷_, List·Memᴰ·tail}
+use mathlib.Core.Bool.{Bool, true, false, not, true≢false}
 use Rattle.rule.specs.Lists.{cond, both, Maybe, none, some, isSome, All}
 use Rattle.rule.specs.Order.{Ord, less, compareKeys, compareNumbers, compareEntries, isLess}
-use Rattle.rule.specs.Entries.{Entry, order, Ascending, Agree, Single}
-use Rattle.rule.specs.Rows.{newest, shown, row}
-use Rattle.rule.specs.Moves.{earlier, best, below, above, every, Move, first, seek, next, previous, target}
+use Rattle.rule.specs.Entries.{Entry, order, Agree, Single}
+use Rattle.rule.specs.Rows.{row}
+use Rattle.rule.specs.Moves.{earlier, best, below, every, Move, first, seek, next, previous, target}
 use Rattle.rule.specs.Nearest.{HasKey}
-use Rattle.rule.proofs.Lists.{both-true, here, all-nil, all-cons, all-append, pairwise-middle}
+use Rattle.rule.proofs.Lists.{both-true, here, all-nil, all-cons}
 use Rattle.rule.proofs.Order.{Order, keys, opposite, then-less, neither-less, not-less-trans, less-not-less, less-greater}
 use Rattle.rule.proofs.Rows.{same-row, row-present}
 
@@ -72,22 +72,6 @@ module _ (cmp : List ℕ → List ℕ → Ord) (o : Order (List ℕ) cmp) (p : L
 pub later-key : (e f : Entry) → order e f ≡ less → isLess (compareKeys (f .key) (e .key)) ≡ false
 unfolding compareEntries
 later-key e f h = ⊎-elim (λ l. rw (less-greater compareKeys keys (e .key) (f .key) l)) (λ q. rw (keys .eq (e .key) (f .key) (q .0), keys .same (f .key))) (then-less (compareKeys (e .key) (f .key)) (compareNumbers (f .number) (e .number)) h)
-
--- in an ascending list the least key that may be picked is the first met from the front, and the greatest the first from the back
-module _ (p : List ℕ → Bool) (s : ℕ) (all a : List Entry) (e : Entry) (b : List Entry) (asc : Ascending (a ++ (e ∷ b))) where
-  pub best-forward : All (λ f. Candidate p s all (f .key) → ⊥) a → Candidate p s all (e .key) → best below p s all (a ++ (e ∷ b)) ≡ some (e .key)
-  best-forward n c = best-by compareKeys keys p s all (a ++ (e ∷ b)) (some (e .key)) (
-    (e, Memᴰ·append-right a here, refl),
-    c,
-    all-append a (e ∷ b) (λ f m d. absurd (n f m d)) (all-cons (λ _. rw (keys .same (e .key))) (λ f m _. later-key e f ((pairwise-middle _ a e b asc) .1 f m))),
-  )
-
-  pub best-backward : All (λ f. Candidate p s all (f .key) → ⊥) b → Candidate p s all (e .key) → best above p s all (a ++ (e ∷ b)) ≡ some (e .key)
-  best-backward n c = best-by (λ a b. compareKeys b a) (opposite compareKeys keys) p s all (a ++ (e ∷ b)) (some (e .key)) (
-    (e, Memᴰ·append-right a here, refl),
-    c,
-    all-append a (e ∷ b) (λ f m _. later-key f e ((pairwise-middle _ a e b asc) .0 f m)) (all-cons (λ _. rw (keys .same (e .key))) (λ f m d. absurd (n f m d))),
-  )
 
 -- the best key depends on the rows only
 best-rows : (before : List ℕ → List ℕ → Bool) (p : List ℕ → Bool) (s : ℕ) (all all′ : List Entry) → ((k : List ℕ) → row k s all ≡ row k s all′) → (es : List Entry) → best before p s all es ≡ best before p s all′ es

@@ -1,20 +1,20 @@
 -- The key of a list that comes next behind a cut, and what it says of the key that a move ends on.
 -- An order is given by its comparison, so that the same laws serve upward and downward.
-use Prim.Native.Nat.{ℕ, zero, suc, _+_, _<_, _≤_}
+use Prim.Native.Nat.{ℕ, suc, _+_, _<_, _≤_}
 use native.Mathlib.Omega.{arith}
-use mathlib.Core.Path.{_≡_, refl, sym, ap, subst, _∙_}
-use mathlib.Core.Logic.{_⊎_, inl, inr, ⊎-elim, _↔_}
-use mathlib.Core.List.{List, [], _∷_, _++_, append-assoc, List·Memᴰ, List·Memᴰ·tail, List·Memᴰ·not-nil, List·Memᴰ·cases-cons, Memᴰ·append-left, Memᴰ·append-right}
+use mathlib.Core.Path.{_≡_, refl, sym, ap, _∙_}
+use mathlib.Core.Logic.{_⊎_, inl, inr}
+use mathlib.Core.List.{List, [], _∷_, _++_, List·Memᴰ, List·Memᴰ·not-nil, List·Memᴰ·cases-cons, Memᴰ·append-left, Memᴰ·append-right}
 use mathlib.Core.Bool.{Bool, true, false, not, true≢false, false≢true}
 use lib.ListN.{length}
-use Rattle.rule.specs.Lists.{cond, Maybe, none, some, isSome, All, Pairwise}
-use Rattle.rule.specs.Order.{Ord, less, equal, greater, compareKeys, isLess, isEqual}
-use Rattle.rule.specs.Entries.{Entry, order, Ascending}
+use Rattle.rule.specs.Lists.{cond, Maybe, none, some, isSome, All}
+use Rattle.rule.specs.Order.{Ord, compareKeys, isLess, isEqual}
+use Rattle.rule.specs.Entries.{Entry, Ascending}
 use Rattle.rule.specs.Rows.{row}
 use Rattle.rule.specs.Moves.{best}
 use Rattle.rule.specs.Nearest.{HasKey, Least, sooner, Onward, remaining}
-use Rattle.rule.proofs.Lists.{here, all-nil, all-cons, all-tail, all-append, pairwise-middle, pairwise-map, part}
-use Rattle.rule.proofs.Order.{Order, keys, less-true, less-not-less, not-less-trans, not-less-other, neither-less, equal-true}
+use Rattle.rule.proofs.Lists.{here, all-cons, all-append, pairwise-middle}
+use Rattle.rule.proofs.Order.{Order, keys, less-true, less-not-less, not-less-trans, not-less-other, equal-true}
 use Rattle.rule.proofs.Moves.{later-key, Candidate, Best, best-is, best-by}
 
 has-left : {k : List ℕ} {es : List Entry} (fs : List Entry) → HasKey k es → HasKey k (es ++ fs)
@@ -33,13 +33,6 @@ module _ (cmp : List ℕ → List ℕ → Ord) (o : Order (List ℕ) cmp) where
       go : (t : Bool) → isLess (cmp l k) ≡ t → Least cmp p (es ++ fs) (some (cond t l k))
       go true e = (has-right es c, d, all-append es fs (λ f m q. not-less-trans cmp o l k (f .key) (less-not-less cmp o l k e) (h f m q)) g)
       go false e = (has-left fs a, b, all-append es fs h (λ f m q. not-less-trans cmp o k l (f .key) e (g f m q)))
-
-  pub least-one : (p : List ℕ → Bool) (e : Entry) → Least cmp p (e ∷ []) (cond (p (e .key)) (some (e .key)) none)
-  least-one p e = go (p (e .key)) refl
-    where
-      go : (t : Bool) → p (e .key) ≡ t → Least cmp p (e ∷ []) (cond t (some (e .key)) none)
-      go true q = ((e, here, refl), q, all-cons (λ _. rw (o .same (e .key))) (all-nil _))
-      go false q = all-cons (λ r. true≢false (sym r ∙ q)) (all-nil _)
 
   pub past-onward : (k : List ℕ) → Onward cmp (λ l. isLess (cmp k l))
   past-onward k a b p q = rw (o .trans k a b (less-true (cmp k a) p) (less-true (cmp a b) q))
@@ -127,11 +120,6 @@ module _ (p : List ℕ → Bool) (lo : List Entry) (e : Entry) (hi : List Entry)
 pub least-nothing : (cmp : List ℕ → List ℕ → Ord) (p : List ℕ → Bool) (es : List Entry) → All (λ f. p (f .key) ≡ false) es → Least cmp p es none
 least-nothing cmp p es n f m q = true≢false (sym q ∙ n f m)
 
--- it depends on the entries, not on their order
-pub least-agree : (cmp : List ℕ → List ℕ → Ord) (p : List ℕ → Bool) (es fs : List Entry) → ((e : Entry) → List·Memᴰ e es ↔ List·Memᴰ e fs) → (n : Maybe (List ℕ)) → Least cmp p es n → Least cmp p fs n
-least-agree cmp p es fs a none h = λ e m. h e ((a e) .1 m)
-least-agree cmp p es fs a (some k) ((e, m, q), b, h) = ((e, (a e) .0 m, q), b, λ f n. h f ((a f) .1 n))
-
 -- the key of the first entry, and of the last
 abbrev pub frontKey : List Entry → Maybe (List ℕ)
 frontKey [] = none
@@ -146,34 +134,3 @@ backKey (e ∷ f ∷ es) = backKey (f ∷ es)
 snoc : (e : Entry) (es : List Entry) → (lo : List Entry) × (d : Entry) × ((e ∷ es) ≡ lo ++ (d ∷ [])) × (backKey (e ∷ es) ≡ some (d .key))
 snoc e [] = ([], e, refl, refl)
 snoc e (f ∷ es) = let (lo, d, q, r) = snoc f es in (e ∷ lo, d, ap {B = List Entry} (λ l. e ∷ l) q, r)
-
--- where a search by keys stops, an ascending list is parted by the cut: upward the next key stands at the front of what is left, downward at the back of what was passed
-module _ (p : List ℕ → Bool) (lo hi : List Entry) (asc : Ascending (lo ++ hi)) where
-  pub least-up : All (λ f. p (f .key) ≡ false) lo → All (λ f. p (f .key) ≡ true) hi → Least compareKeys p (lo ++ hi) (frontKey hi)
-  least-up n y = go hi asc y
-    where
-      go : (hi : List Entry) → Ascending (lo ++ hi) → All (λ f. p (f .key) ≡ true) hi → Least compareKeys p (lo ++ hi) (frontKey hi)
-      go [] a y = least-nothing compareKeys p (lo ++ []) (all-append lo [] n (all-nil _))
-      go (e ∷ hi) a y = least-front p lo e hi a (y e here) n
-
-  pub least-down : All (λ f. p (f .key) ≡ true) lo → All (λ f. p (f .key) ≡ false) hi → Least (λ a b. compareKeys b a) p (lo ++ hi) (backKey lo)
-  least-down y n = go lo asc y
-    where
-      at-back : (lo : List Entry) (d : Entry) (l : List Entry) → l ≡ lo ++ (d ∷ []) → Ascending (l ++ hi) → All (λ f. p (f .key) ≡ true) l → Least (λ a b. compareKeys b a) p (l ++ hi) (some (d .key))
-      at-back lo d l e a y = rw (e, append-assoc lo (d ∷ []) hi) (least-back p lo d hi (rw (e, append-assoc lo (d ∷ []) hi) at a) (y d (rw e (Memᴰ·append-right lo here))) n)
-
-      go : (lo : List Entry) → Ascending (lo ++ hi) → All (λ f. p (f .key) ≡ true) lo → Least (λ a b. compareKeys b a) p (lo ++ hi) (backKey lo)
-      go [] a y = least-nothing (λ a b. compareKeys b a) p hi n
-      go (e ∷ es) a y = let (l, d, q, r) = snoc e es in rw r (at-back l d (e ∷ es) q a y)
-
--- an ascending list is parted by any cut
-pub cut-part : (p : List ℕ → Bool) → Onward compareKeys p → (es : List Entry) → Ascending es → (lo : List Entry) × (hi : List Entry) × (es ≡ lo ++ hi) × All (λ e. not (p (e .key)) ≡ true) lo × All (λ e. not (p (e .key)) ≡ false) hi
-cut-part p up es a = part (λ e. not (p (e .key))) es (pairwise-map _ _ es (λ e f h. back e f (later-key e f h)) a)
-  where
-    back : (e f : Entry) → isLess (compareKeys (f .key) (e .key)) ≡ false → not (p (f .key)) ≡ true → not (p (e .key)) ≡ true
-    back e f h = go (p (e .key)) refl (isEqual (compareKeys (f .key) (e .key))) refl
-      where
-        go : (b : Bool) → p (e .key) ≡ b → (q : Bool) → isEqual (compareKeys (f .key) (e .key)) ≡ q → not (p (f .key)) ≡ true → not b ≡ true
-        go false z q w n = refl
-        go true z true w n = absurd (false≢true (rw (keys .eq (f .key) (e .key) (equal-true _ w), z) at n))
-        go true z false w n = absurd (false≢true (rw (up (e .key) (f .key) z (ap isLess (not-less-other compareKeys keys (f .key) (e .key) h w))) at n))

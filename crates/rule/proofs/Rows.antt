@@ -2,18 +2,18 @@
 use Prim.Native.Nat.{ℕ, _<_, _≤_}
 use native.Mathlib.Omega.{arith}
 use native.Mathlib.Nat.{le-refl}
-use mathlib.Core.Path.{_≡_, refl, sym, ap, subst, _∙_}
-use mathlib.Core.Logic.{_⊎_, inl, inr, ⊎-elim, _↔_}
-use mathlib.Core.List.{List, [], _∷_, _++_, List·Memᴰ, List·Memᴰ·head, List·Memᴰ·tail, List·Memᴰ·not-nil, List·Memᴰ·cases-cons, List·Memᴰ·append-cases, Memᴰ·append-left, Memᴰ·append-right}
+use mathlib.Core.Path.{_≡_, refl, sym, ap, _∙_}
+use mathlib.Core.Logic.{_⊎_, inl, inr, ⊎-elim}
+use mathlib.Core.List.{List, [], _∷_, _++_, List·Memᴰ, List·Memᴰ·tail, List·Memᴰ·not-nil, List·Memᴰ·cases-cons, List·Memᴰ·append-cases, Memᴰ·append-left, Memᴰ·append-right}
 use mathlib.Core.Bool.{Bool, true, false, true≢false, false≢true}
 use lib.Dec.{ltb, leb}
 use borrow.Author.Tests.{ltb-true, ltb-false, lt-ltb, le-ltb, leb-true, le-leb}
-use Rattle.rule.specs.Lists.{cond, both, Maybe, none, some, isSome, All, Pairwise}
+use Rattle.rule.specs.Lists.{cond, Maybe, none, some, isSome, All, Pairwise}
 use Rattle.rule.specs.Order.{Ord, less, equal, greater, compareKeys, compareEntries, isLess, isEqual}
 use Rattle.rule.specs.Entries.{Entry, order, Ascending, Agree, Single}
 use Rattle.rule.specs.Rows.{fits, newer, newest, shown, row}
-use Rattle.rule.proofs.Lists.{both-true, here, all-nil, all-cons, all-append, pairwise-right, pairwise-map, part, mem-insert, mem-without}
-use Rattle.rule.proofs.Order.{keys, entries, comparePairs, greater-not-eq, less-true, equal-true, less-passes, entries-less-number, entries-not-less-number}
+use Rattle.rule.proofs.Lists.{both-true, here, all-nil, all-cons, all-append, pairwise-right}
+use Rattle.rule.proofs.Order.{keys, greater-not-eq, less-true, equal-true, entries-less-number, entries-not-less-number}
 
 -- the entry counts for the key k up to the number s
 pub record Fits (k : List ℕ) (s : ℕ) (e : Entry) : Type 0 where
@@ -49,10 +49,6 @@ module _ (k : List ℕ) (s : ℕ) where
       go false p none h = all-cons (λ q. true≢false (sym (true-fits k s e q) ∙ p)) h
       go false p (some f) (m, g, h) = (List·Memᴰ·tail m, g, all-cons (λ q. absurd (true≢false (sym (true-fits k s e q) ∙ p))) h)
 
--- an entry with a higher number changes nothing that s sees
-pub agree-insert : (s : ℕ) (es : List Entry) (e : Entry) (fs : List Entry) → s < e .number → Agree s (es ++ fs) (es ++ (e ∷ fs))
-agree-insert s es e fs h f l = (mem-insert es e fs, mem-without es e fs (λ q. let z = ap (λ (d : Entry). d .number) q in omega arith))
-
 -- the newest is the newest of every list with the same entries
 pub newest-agree : (k : List ℕ) (s : ℕ) (es fs : List Entry) → Agree s es fs → Single s es → (m n : Maybe Entry) → Newest k s es m → Newest k s fs n → m ≡ n
 newest-agree k s es fs a u none none p q = refl
@@ -68,10 +64,6 @@ same-newest k s es fs a u = newest-agree k s es fs a u (newest k s es) (newest k
 
 pub same-row : (k : List ℕ) (s : ℕ) (es fs : List Entry) → Agree s es fs → Single s es → row k s es ≡ row k s fs
 same-row k s es fs a u = ap shown (same-newest k s es fs a u)
-
--- a list is parted by a probe
-pub probe-split : (k : List ℕ) (s : ℕ) (es : List Entry) → Ascending es → (lo : List Entry) × (hi : List Entry) × (es ≡ lo ++ hi) × All (λ e. isLess (compareEntries (e .key) (e .number) k s) ≡ true) lo × All (λ e. isLess (compareEntries (e .key) (e .number) k s) ≡ false) hi
-probe-split k s es a = part (λ e. isLess (compareEntries (e .key) (e .number) k s)) es (pairwise-map _ _ es (λ e f h. less-passes comparePairs entries (e .key, e .number) (f .key, f .number) (k, s) h) a)
 
 -- no entry is less than one of the same key and number
 order-strict : (e f : Entry) → e .key ≡ f .key → e .number ≡ f .number → order e f ≡ less → ⊥
@@ -154,29 +146,15 @@ row-present k s es h = go (newest k s es) (newest-is k s es) h
     go none p q = absurd (false≢true q)
     go (some e) p q = (e, p .0, p .1)
 
--- ---- what two lists of entries have in common up to s, whatever their order and split
+-- ---- what two lists of entries have in common up to s
 
--- the same members, in any order
-pub agree-same : (s : ℕ) (es fs : List Entry) → ((e : Entry) → List·Memᴰ e es ↔ List·Memᴰ e fs) → Agree s es fs
-agree-same s es fs h e _ = h e
+-- entries with higher numbers change nothing that s sees
+pub agree-later : (s : ℕ) (es fs : List Entry) → All (λ e. s < e .number) fs → Agree s es (es ++ fs)
+agree-later s es fs l e h = (λ k. Memᴰ·append-left fs k, λ k. ⊎-elim (λ i. i) (λ i. absurd (omega (arith, h, l e i))) (List·Memᴰ·append-cases es k))
 
--- two tables in the other order
-pub agree-swap : (s : ℕ) (es fs : List Entry) → Agree s (es ++ fs) (fs ++ es)
-agree-swap s es fs = agree-same s (es ++ fs) (fs ++ es) (λ e. (other es fs, other fs es))
+-- two tables, each beside another
+pub agree-both : (s : ℕ) (es es′ fs fs′ : List Entry) → Agree s es es′ → Agree s fs fs′ → Agree s (es ++ fs) (es′ ++ fs′)
+agree-both s es es′ fs fs′ g h e l = (there es es′ fs fs′ (g e l .0) (h e l .0), there es′ es fs′ fs (g e l .1) (h e l .1))
   where
-    other : {e : Entry} (xs ys : List Entry) → List·Memᴰ e (xs ++ ys) → List·Memᴰ e (ys ++ xs)
-    other xs ys m = ⊎-elim (Memᴰ·append-right ys) (Memᴰ·append-left xs) (List·Memᴰ·append-cases xs m)
-
-pub agree-trans : (s : ℕ) (es fs gs : List Entry) → Agree s es fs → Agree s fs gs → Agree s es gs
-agree-trans s es fs gs h k e l = (λ m. (k e l) .0 ((h e l) .0 m), λ m. (h e l) .1 ((k e l) .1 m))
-
--- an entry in the one table or in the other
-pub agree-split : (s : ℕ) (es fs gs : List Entry) (e : Entry) → Agree s ((es ++ (e ∷ fs)) ++ gs) ((es ++ fs) ++ (e ∷ gs))
-agree-split s es fs gs e = agree-same s ((es ++ (e ∷ fs)) ++ gs) ((es ++ fs) ++ (e ∷ gs)) (λ d. (there d, back d))
-  where
-    there : (d : Entry) → List·Memᴰ d ((es ++ (e ∷ fs)) ++ gs) → List·Memᴰ d ((es ++ fs) ++ (e ∷ gs))
-    there d m = ⊎-elim (λ a. ⊎-elim (λ b. Memᴰ·append-left (e ∷ gs) (Memᴰ·append-left fs b)) (λ b. ⊎-elim (λ q. Memᴰ·append-right (es ++ fs) (List·Memᴰ·head q)) (λ c. Memᴰ·append-left (e ∷ gs) (Memᴰ·append-right es c)) (List·Memᴰ·cases-cons b)) (List·Memᴰ·append-cases es a))
-        (λ a. Memᴰ·append-right (es ++ fs) (List·Memᴰ·tail a)) (List·Memᴰ·append-cases (es ++ (e ∷ fs)) m)
-
-    back : (d : Entry) → List·Memᴰ d ((es ++ fs) ++ (e ∷ gs)) → List·Memᴰ d ((es ++ (e ∷ fs)) ++ gs)
-    back d m = ⊎-elim (λ a. Memᴰ·append-left gs (mem-insert es e fs a)) (λ a. ⊎-elim (λ q. Memᴰ·append-left gs (Memᴰ·append-right es (List·Memᴰ·head q))) (Memᴰ·append-right (es ++ (e ∷ fs))) (List·Memᴰ·cases-cons a)) (List·Memᴰ·append-cases (es ++ fs) m)
+    there : (is bs cs ds : List Entry) → (List·Memᴰ e is → List·Memᴰ e bs) → (List·Memᴰ e cs → List·Memᴰ e ds) → List·Memᴰ e (is ++ cs) → List·Memᴰ e (bs ++ ds)
+    there is bs cs ds p q k = ⊎-elim (λ i. Memᴰ·append-left ds (p i)) (λ i. Memᴰ·append-right bs (q i)) (List·Memᴰ·append-cases is k)

@@ -1,9 +1,9 @@
 -- What document 01's words come to on the smallest entries, by computation.
 use Prim.Native.Nat.{ℕ}
 use mathlib.Core.Path.{_≡_, refl}
-use mathlib.Core.List.{List, [], _∷_}
+use mathlib.Core.List.{[], _∷_}
 use Rattle.rule.specs.Lists.{none, some}
-use Rattle.rule.specs.Order.{less, equal, compareKeys, compareEntries}
+use Rattle.rule.specs.Order.{less, compareKeys, compareEntries}
 use Rattle.rule.specs.Entries.{Entry, together}
 use Rattle.rule.specs.Rows.{newest, row}
 use Rattle.rule.specs.Moves.{first, seek, next, previous, target}

@@ -99,10 +99,6 @@ module _ (xs : List ℕ) (mode : OnEqual) (node : Found → ℕ) (k : List ℕ) 
   pub landed : (f : Found) → got f ≡ searched xs mode k n → {c : Cursor} → c ≡ cursorAt (node f) → given c ≡ reading (bind (searched xs mode k n) (λ r. got (cursorAt (node r)))) given
   landed f e g = rw (← e, g)
 
--- the head's lowest link, and that of a node whose lead is read, lie in the image
-pub head-link : (xs : List ℕ) → Header xs → LinkInside xs 0 0
-head-link xs h = good-inside xs 0 0 h (omega arith) (inl refl)
-
 pub node-link : (xs : List ℕ) (i : ℕ) {m : Lead} → Numbered xs i → got m ≡ leadOf xs i → LinkInside xs i 0
 node-link xs i {m} n e = good-inside xs i 0 (n .header) (omega arith) (inr (n .some, n .most, (m, sym e, (lead-bounds xs _ _ m (sym e)) .some-height)))
 

@@ -3,19 +3,16 @@ use Prim.Native.Nat.{ℕ, _≤_}
 use native.Mathlib.Omega.{arith}
 use mathlib.Core.Path.{_≡_, refl, sym, ap, _∙_}
 use mathlib.Core.List.{List, [], _∷_, _++_, append-assoc, append-nil}
-use mathlib.Core.Bool.{true}
 use lib.ListN.{length}
 use lib.Dec.{leb}
 use borrow.Author.Tests.{leb-true}
 use Rattle.rule.specs.Lists.{both}
-use Rattle.rule.specs.Entries.{Entry, Single}
+use Rattle.rule.specs.Entries.{Entry}
 use Rattle.rule.proofs.Lists.{both-true}
 use Rattle.image.specs.Limits.{headerSize, maxImage}
-use Rattle.image.specs.Nodes.{entryOf}
 use Rattle.image.specs.Sound.{Sound, held}
 use Rattle.image.specs.Refusals.{badImage, given}
 use Rattle.image.specs.Fresh.{freshImage, fresh}
-use Rattle.image.specs.Meaning.{IsNode}
 use Rattle.image.proofs.Refusals.{demand-given}
 use Rattle.image.proofs.Add.{add-added}
 use Rattle.table.specs.Memtable.{Freshens, Adds}

@@ -1,20 +1,22 @@
 -- Two answers that a promise allows are one: for each call on one table, on any bytes.
 use Prim.Native.Nat.{ℕ}
 use mathlib.Core.Path.{_≡_, refl, sym, ap, _∙_}
+use mathlib.Core.Logic.{_⊎_, inl, inr}
 use mathlib.Core.List.{List}
-use mathlib.Core.Bool.{Bool, true, false}
+use mathlib.Core.Bool.{Bool, true, false, true≢false}
 use Rattle.rule.specs.Entries.{Entry}
 use Rattle.image.specs.Refusals as is
 use Rattle.image.specs.Refusals.{Answer, refused, given}
+use Rattle.image.specs.Sound.{headerHolds}
 use Rattle.image.specs.Add.{Grown}
 use Rattle.image.specs.Lookup.{Looked, found, deleted, absent, Lookup as LookupIs, Presence as PresenceIs}
-use Rattle.image.specs.EntryMoves.{Cursor, nowhere, on, EntryMove}
+use Rattle.image.specs.EntryMoves.{Cursor, nowhere, on, inTable, EntryMove}
 use Rattle.image.specs.Cuts.{Cut}
 use Rattle.image.specs.Newest.{NewestAt as NewestAtIs, value, deletion, nothing}
 use Rattle.table.specs.Refusals.{refusalIs}
 use Rattle.table.specs.Memtable.{freshenedAs, Freshens, addedAs, Adds, lookupAs, Gets}
 use Rattle.table.specs.Presence.{presenceAs, Contains, ShowsRow}
-use Rattle.table.specs.MemtableIter.{cursorIs, movedAs, HandsBack, Moves}
+use Rattle.table.specs.MemtableIter.{cursorIs, Tested, movedAs, HandsBack, Moves}
 use Rattle.table.specs.Check.{Checked}
 use Rattle.table.specs.Questions.{hitAs, Nears, newestAs, TellsNewest}
 use Rattle.table.specs.declared.refusals.Refusal.{Refusal}
@@ -29,6 +31,8 @@ use Rattle.table.specs.declared.presence.Presence.{Presence}
 use Rattle.table.specs.declared.presence.Presence.the-variants as presence
 use Rattle.table.specs.declared.memtable_iter.EntryCursor.{EntryCursor}
 use Rattle.table.specs.declared.memtable_iter.EntryCursor.the-variants.{Nowhere, On}
+use Rattle.table.specs.declared.memtable_iter.CursorTest.{CursorTest}
+use Rattle.table.specs.declared.memtable_iter.CursorTest.the-variants as test
 use Rattle.table.specs.declared.memtable_iter.EntryMoved.{EntryMoved}
 use Rattle.table.specs.declared.memtable_iter.EntryMoved.the-variants.{To, Refused}
 use Rattle.table.specs.declared.questions.Hit.{Hit}
@@ -162,6 +166,20 @@ move-one xs m c r q a b = sym (back r (a .handed)) ∙ ap (movedFrom c) (a .exac
     back : (r : EntryMoved) → HandsBack c r → movedFrom c (movedAs r) ≡ r
     back (To d) h = ap {B = EntryMoved} To (cursor-back d)
     back (Refused q d) h = rw (refusal-back q, h)
+
+pub test-one : (xs : List ℕ) (c : Cursor) (r q : CursorTest) → Tested xs c r → Tested xs c q → r ≡ q
+test-one xs c test.Passed test.Passed a b = refl
+test-one xs c test.Passed (test.Failed q) (h, i) (inl (j, _)) = absurd (true≢false (sym h ∙ j))
+test-one xs c test.Passed (test.Failed q) (h, i) (inr (_, j, _)) = absurd (true≢false (sym i ∙ j))
+test-one xs c (test.Failed q) test.Passed (inl (j, _)) (h, i) = absurd (true≢false (sym h ∙ j))
+test-one xs c (test.Failed q) test.Passed (inr (_, j, _)) (h, i) = absurd (true≢false (sym i ∙ j))
+test-one xs c (test.Failed p) (test.Failed q) a b = ap {B = CursorTest} test.Failed (recovered refusalIs refusalFrom refusal-back p q (go a b))
+  where
+    go : ((headerHolds xs ≡ false) × (refusalIs p ≡ is.badImage)) ⊎ ((headerHolds xs ≡ true) × (inTable xs c ≡ false) × (refusalIs p ≡ is.noNode)) → ((headerHolds xs ≡ false) × (refusalIs q ≡ is.badImage)) ⊎ ((headerHolds xs ≡ true) × (inTable xs c ≡ false) × (refusalIs q ≡ is.noNode)) → refusalIs p ≡ refusalIs q
+    go (inl (_, e)) (inl (_, f)) = e ∙ sym f
+    go (inl (h, _)) (inr (i, _, _)) = absurd (true≢false (sym i ∙ h))
+    go (inr (i, _, _)) (inl (h, _)) = absurd (true≢false (sym i ∙ h))
+    go (inr (_, _, e)) (inr (_, _, f)) = e ∙ sym f
 
 pub check-one : (xs : List ℕ) (r q : Bool) → Checked xs r → Checked xs q → r ≡ q
 check-one xs r q a b = a .exact ∙ sym (b .exact)

@@ -6,7 +6,6 @@ use mathlib.Core.Bool.{Bool}
 use lib.ListN.{length, getD}
 use Rattle.rule.specs.Entries.{Entry}
 use Rattle.image.specs.Limits.{maxKey, maxValue, maxNumber, levels, headerSize}
-use Rattle.image.specs.Entries.{encode}
 use Rattle.image.specs.Nodes.{count, free, sizeOf, linkPlace, linkOf}
 use Rattle.image.specs.Sound.{Header}
 use Rattle.image.specs.Search.{toStop, searched}

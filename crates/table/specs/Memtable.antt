@@ -1,9 +1,7 @@
 -- What the calls on one table promise: `exact`, the answer and every lent byte on any bytes, and `rule`, what it means on a sound image.
 use Prim.Native.Nat.{ℕ, _+_, _≤_}
 use mathlib.Core.Path.{_≡_}
-use mathlib.Core.Logic.{_↔_}
 use mathlib.Core.List.{List, [], _∷_, _++_}
-use mathlib.Core.Bool.{Bool, true, false}
 use lib.ListN.{length}
 use Rattle.rule.specs.Entries.{Entry}
 use Rattle.image.specs.Limits.{headerSize, maxImage, maxNumber, maxKey, levels}
@@ -13,10 +11,9 @@ use Rattle.image.specs.Refusals.{damaged, Answer, refused, given}
 use Rattle.image.specs.Fresh.{fresh}
 use Rattle.image.specs.Add.{Grown, add, afterwards}
 use Rattle.image.specs.Sound.{Header}
-use Rattle.image.specs.Lookup.{Looked, found, deleted, absent, Lookup as LookupIs, get, Presence as PresenceIs, presence}
-use Rattle.image.specs.Meaning.{Tells, IsHeld}
+use Rattle.image.specs.Lookup.{Looked, found, deleted, absent, Lookup as LookupIs, get}
+use Rattle.image.specs.Meaning.{Tells}
 use Rattle.table.specs.Refusals.{refusalIs}
-use Rattle.table.specs.declared.refusals.Refusal.{Refusal}
 use Rattle.table.specs.declared.memtable.Freshened.{Freshened}
 use Rattle.table.specs.declared.memtable.Freshened.the-variants as freshened
 use Rattle.table.specs.declared.memtable.Added.{Added}

@@ -3,8 +3,8 @@ use Prim.Native.Nat.{ℕ}
 use mathlib.Core.Path.{_≡_}
 use mathlib.Core.Logic.{_⊎_}
 use mathlib.Core.List.{List}
-use mathlib.Core.Bool.{Bool, true, false}
-use Rattle.image.specs.Sound.{Header, headerHolds, Sound}
+use mathlib.Core.Bool.{true, false}
+use Rattle.image.specs.Sound.{headerHolds, Sound}
 use Rattle.image.specs.Refusals.{badImage, noNode, damaged, Answer, refused, given}
 use Rattle.image.specs.EntryMoves.{Cursor, nowhere, on, inTable, EntryMove, entryMove}
 use Rattle.image.specs.Meaning.{Stands, Fitting, Leads}

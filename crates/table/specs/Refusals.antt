@@ -1,6 +1,5 @@
 -- The refusals of the code as those of document 01.
 use Rattle.image.specs.Refusals as is
-use Rattle.image.specs.Refusals.{Answer, refused, given}
 use Rattle.table.specs.declared.refusals.Refusal.{Refusal}
 use Rattle.table.specs.declared.refusals.Refusal.the-variants.{BadImage, BadKind, BadNumber, LongKey, LongValue, BadHeight, NoRoom, Duplicate, Damaged, NoNode}
 
