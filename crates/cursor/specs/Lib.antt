@@ -3,4 +3,5 @@ pub mod Merging
 pub mod Walks
 pub mod Moves
 pub mod Rows
+pub mod RowSpans
 pub mod Pairs
