@@ -2,6 +2,7 @@ pub mod Merging
 pub mod Walks
 pub mod Moves
 pub mod Rows
+pub mod RowSpans
 pub mod Pairs
 pub mod Unique
 pub mod Growth

@@ -3,5 +3,6 @@ pub mod Merging
 pub mod Walks
 pub mod Moves
 pub mod Rows
+pub mod RowSpans
 pub mod Pairs
 pub mod Runs

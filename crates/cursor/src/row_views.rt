@@ -16,7 +16,7 @@ use table::nodes::header_holds;
 use table::refusals::Refusal;
 
 // Whether the headers of both tables hold.
-fn headers_hold(first: &[u8], second: &[u8]) -> bool
+pub(crate) fn headers_hold(first: &[u8], second: &[u8]) -> bool
     ensures { λ r. ⌜ r ≡ both (headerHolds (now (first .entry))) (headerHolds (now (second .entry))) ⌝ }
 {
     if !header_holds(first) {

@@ -37,7 +37,7 @@ fn parts_of(s: &[u8], node: usize) -> PartsOn
 }
 
 // The parts of the node at a cursor. Refusals 1, 10, 9.
-fn parts_on(s: &[u8], c: EntryCursor) -> PartsOn
+pub(crate) fn parts_on(s: &[u8], c: EntryCursor) -> PartsOn
     ensures { λ r. ⌜ PartsOnIs (now (s .entry)) (cursorIs c) r ⌝ }
 {
     let test = test_cursor(s, c);

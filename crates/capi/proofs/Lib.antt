@@ -1,0 +1,4 @@
+pub mod Meant
+pub mod OneAnswer
+pub mod Views
+pub mod RawCursors

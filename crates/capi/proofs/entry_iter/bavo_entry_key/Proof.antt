@@ -1,0 +1,35 @@
+use Rattle.capi.proofs.Meant.{meant}
+use Rattle.table.specs.declared.memtable_iter.EntryCursor.{EntryCursor}
+use Rattle.image.specs.EntryMoves.{keyView}
+use Rattle.table.specs.MemtableIter.{cursorIs}
+use Rattle.table.specs.EntrySpans.{Spans}
+use Rattle.capi.specs.Memtable.{plainView}
+use borrow.Author.Needs.{needs}
+use Rattle.capi.proofs.entry_iter.bavo_entry_key.Statement.{statement}
+use Rattle.capi.proofs.entry_iter.bavo_entry_key.Tie as tie
+use Rattle.capi.proofs.entry_iter.bavo_entry_key.Reads as reads
+use Rattle.capi.proofs.entry_iter.bavo_entry_key.Lts as lts
+use Rattle.capi.proofs.entry_iter.entry_cursor_of.Reads as entry-cursor-of-reads
+use Rattle.capi.proofs.memtable.plain_view.Reads as plain-view-reads
+use Rattle.table.proofs.entry_spans.entry_key_span.Reads as entry-key-span-reads
+
+-- src/entry_iter.rt:113:38
+entry-cursor-of-requires : tie.Need-entry-cursor-of-requires
+entry-cursor-of-requires c κs = search needs
+
+-- src/entry_iter.rt:113:16
+entry-key-span-requires : tie.Need-entry-key-span-requires
+entry-key-span-requires c κs = search needs
+
+-- src/entry_iter.rt:113:5
+plain-view-requires : tie.Need-plain-view-requires
+plain-view-requires c κs = search needs
+
+-- src/entry_iter.rt:109:1
+returns : tie.Need-returns
+returns c = let a = c .before .before .before .before .args in meant (λ (d : EntryCursor). Spans (a .image .now) (keyView (a .image .now) (cursorIs d))) plainView (c .before .before .entry-cursor-of .ensures) (c .before .entry-key-span .ensures) (c .plain-view .ensures)
+
+pub bavo-entry-key-spec : {M : Type 1} → statement M
+bavo-entry-key-spec =
+    tie.close
+    (tie.spec entry-cursor-of-requires entry-key-span-requires plain-view-requires returns)

@@ -1,0 +1,202 @@
+// The calls on one table.
+ghost use mathlib.Core.Path.{_≡_};
+ghost use Rattle.image.specs.EntryMoves.{on, valueView, viewRefusal};
+ghost use Rattle.table.specs.Entries.{entry};
+ghost use Rattle.table.specs.Memtable.{Freshens, Adds, Gets};
+ghost use Rattle.table.specs.Presence.{Contains};
+ghost use Rattle.table.specs.Check.{Checked};
+ghost use Rattle.table.specs.EntrySpans.{Spans};
+ghost use Rattle.capi.specs.Plain.{Plainly};
+ghost use Rattle.capi.specs.Memtable.{plainFreshened, plainAdded, plainPresence, plainLookup, plainView};
+use table::check::check;
+use table::entry_spans::SpanOn;
+use table::entry_spans::value_span;
+use table::entry_views::value_refusal;
+use table::memtable::Added;
+use table::memtable::Freshened;
+use table::memtable::Lookup;
+use table::memtable::add;
+use table::memtable::fresh;
+use table::memtable::get;
+use table::presence::Presence;
+use table::presence::contains;
+
+// The refusal's number, or 0.
+fn plain_freshened(a: Freshened) -> u32
+    ensures { λ r. ⌜ r ≡ plainFreshened a ⌝ }
+{
+    match a {
+        Freshened::Done => 0,
+        Freshened::Refused(q) => q.number(),
+    }
+}
+
+#[no_mangle]
+pub extern "C" fn bavo_fresh(image: &mut [u8]) -> u32
+    ensures { λ r. ⌜ Plainly plainFreshened (λ a. Freshens (now (image .entry)) a (now (image .exit))) r ⌝ }
+{
+    plain_freshened(fresh(image))
+}
+
+// What an addition answers; refused, the node is 0.
+#[repr(C)]
+pub struct BavoAdded {
+    pub refusal: u32,
+    pub node: usize,
+}
+
+fn plain_added(a: Added) -> BavoAdded
+    ensures { λ r. ⌜ r ≡ plainAdded a ⌝ }
+{
+    match a {
+        Added::Node(node) => BavoAdded { refusal: 0, node },
+        Added::Refused(q) => BavoAdded {
+            refusal: q.number(),
+            node: 0,
+        },
+    }
+}
+
+#[no_mangle]
+pub extern "C" fn bavo_add(
+    image: &mut [u8],
+    key: &[u8],
+    number: u64,
+    kind: u8,
+    value: &[u8],
+    height: usize,
+) -> BavoAdded
+    ensures { λ r. ⌜ Plainly plainAdded (λ a. Adds (now (image .entry)) (entry (now (key .entry)) number kind (now (value .entry))) height a (now (image .exit))) r ⌝ }
+{
+    plain_added(add(image, key, number, kind, value, height))
+}
+
+#[no_mangle]
+pub extern "C" fn bavo_check(image: &[u8]) -> bool
+    ensures { λ r. ⌜ Checked (now (image .entry)) r ⌝ }
+{
+    check(image)
+}
+
+// Whether an entry is held: 1, or 0.
+#[repr(C)]
+pub struct BavoPresence {
+    pub refusal: u32,
+    pub held: u32,
+    pub looks: usize,
+}
+
+fn plain_presence(a: Presence) -> BavoPresence
+    ensures { λ r. ⌜ r ≡ plainPresence a ⌝ }
+{
+    match a {
+        Presence::Held { looks } => BavoPresence {
+            refusal: 0,
+            held: 1,
+            looks,
+        },
+        Presence::NotHeld { looks } => BavoPresence {
+            refusal: 0,
+            held: 0,
+            looks,
+        },
+        Presence::Refused(q) => BavoPresence {
+            refusal: q.number(),
+            held: 0,
+            looks: 0,
+        },
+    }
+}
+
+#[no_mangle]
+pub extern "C" fn bavo_contains(image: &[u8], key: &[u8], number: u64, kind: u8) -> BavoPresence
+    ensures { λ r. ⌜ Plainly plainPresence (λ a. Contains (now (image .entry)) (now (key .entry)) number kind a) r ⌝ }
+{
+    plain_presence(contains(image, key, number, kind))
+}
+
+// What a lookup answers: 0 absent, 1 found at the node, 2 deleted.
+#[repr(C)]
+pub struct BavoLookup {
+    pub refusal: u32,
+    pub answer: u32,
+    pub node: usize,
+    pub looks: usize,
+}
+
+fn plain_lookup(a: Lookup) -> BavoLookup
+    ensures { λ r. ⌜ r ≡ plainLookup a ⌝ }
+{
+    match a {
+        Lookup::Found { node, looks } => BavoLookup {
+            refusal: 0,
+            answer: 1,
+            node,
+            looks,
+        },
+        Lookup::Deleted { looks } => BavoLookup {
+            refusal: 0,
+            answer: 2,
+            node: 0,
+            looks,
+        },
+        Lookup::Absent { looks } => BavoLookup {
+            refusal: 0,
+            answer: 0,
+            node: 0,
+            looks,
+        },
+        Lookup::Refused(q) => BavoLookup {
+            refusal: q.number(),
+            answer: 0,
+            node: 0,
+            looks: 0,
+        },
+    }
+}
+
+#[no_mangle]
+pub extern "C" fn bavo_get(image: &[u8], key: &[u8], snapshot: u64) -> BavoLookup
+    ensures { λ r. ⌜ Plainly plainLookup (λ a. Gets (now (image .entry)) (now (key .entry)) snapshot a) r ⌝ }
+{
+    plain_lookup(get(image, key, snapshot))
+}
+
+// A part of the image; refused, nowhere and of a deletion's value it is the empty part at 0.
+#[repr(C)]
+pub struct BavoView {
+    pub refusal: u32,
+    pub offset: usize,
+    pub length: usize,
+}
+
+pub(crate) fn plain_view(a: SpanOn) -> BavoView
+    ensures { λ r. ⌜ r ≡ plainView a ⌝ }
+{
+    match a {
+        SpanOn::At { at, len } => BavoView {
+            refusal: 0,
+            offset: at,
+            length: len,
+        },
+        SpanOn::Refused(q) => BavoView {
+            refusal: q.number(),
+            offset: 0,
+            length: 0,
+        },
+    }
+}
+
+#[no_mangle]
+pub extern "C" fn bavo_value(image: &[u8], node: usize) -> BavoView
+    ensures { λ r. ⌜ Plainly plainView (λ a. Spans (now (image .entry)) (valueView (now (image .entry)) (on node)) a) r ⌝ }
+{
+    plain_view(value_span(image, node))
+}
+
+#[no_mangle]
+pub extern "C" fn bavo_value_refusal(image: &[u8], node: usize) -> u32
+    ensures { λ r. ⌜ r ≡ viewRefusal (now (image .entry)) (on node) ⌝ }
+{
+    value_refusal(image, node)
+}

@@ -1,0 +1,85 @@
+// Where the views at the visible cursor stand: which of the two lent images, offset and length of the part that `row_key` and
+// `row_value` hand back, for callers to whom no reference can be handed.
+ghost use mathlib.Core.Path.{_≡_};
+ghost use Rattle.image.specs.EntryMoves.{keyView, valueView};
+ghost use Rattle.cursor.specs.RowSpans.{spanIn, SpansAt, RowSpans};
+use crate::places::Cursor;
+use crate::places::Place;
+use crate::places::Side;
+use crate::row_views::headers_hold;
+use table::entry_spans::SpanOn;
+use table::entry_spans::entry_key_span;
+use table::entry_spans::entry_value_span;
+use table::memtable_iter::EntryCursor;
+use table::refusals::Refusal;
+
+// Nowhere, a part of one of the two images, or why it is refused. Of a deletion it is the empty part at 0 of its image.
+pub enum RowSpan {
+    Nowhere,
+    In { table: Side, at: usize, len: usize },
+    Refused(Refusal),
+}
+
+// One table's answer.
+fn span_in(side: Side, span: SpanOn) -> RowSpan
+    ensures { λ r. ⌜ r ≡ spanIn side span ⌝ }
+{
+    match span {
+        SpanOn::At { at, len } => RowSpan::In {
+            table: side,
+            at,
+            len,
+        },
+        SpanOn::Refused(q) => RowSpan::Refused(q),
+    }
+}
+
+// Where the key at a place stands.
+fn key_span_at(first: &[u8], second: &[u8], p: Place) -> RowSpan
+    ensures { λ r. ⌜ SpansAt keyView (now (first .entry)) (now (second .entry)) p r ⌝ }
+{
+    let side = p.table;
+    let node = p.node;
+    match side {
+        Side::First => span_in(side, entry_key_span(first, EntryCursor::On(node))),
+        Side::Second => span_in(side, entry_key_span(second, EntryCursor::On(node))),
+    }
+}
+
+// Where the value at a place stands.
+fn value_span_at(first: &[u8], second: &[u8], p: Place) -> RowSpan
+    ensures { λ r. ⌜ SpansAt valueView (now (first .entry)) (now (second .entry)) p r ⌝ }
+{
+    let side = p.table;
+    let node = p.node;
+    match side {
+        Side::First => span_in(side, entry_value_span(first, EntryCursor::On(node))),
+        Side::Second => span_in(side, entry_value_span(second, EntryCursor::On(node))),
+    }
+}
+
+// Where the key of the row at a cursor stands. Refusals 1 (first table, then second), 10, 9.
+pub fn row_key_span(first: &[u8], second: &[u8], at: Cursor) -> RowSpan
+    ensures { λ r. ⌜ RowSpans keyView (now (first .entry)) (now (second .entry)) at r ⌝ }
+{
+    if !headers_hold(first, second) {
+        return RowSpan::Refused(Refusal::BadImage);
+    }
+    let Cursor::On(p) = at else {
+        return RowSpan::Nowhere;
+    };
+    key_span_at(first, second, p)
+}
+
+// Where the value of the row at a cursor stands; a deletion's is empty. Refusals 1 (first table, then second), 10, 9.
+pub fn row_value_span(first: &[u8], second: &[u8], at: Cursor) -> RowSpan
+    ensures { λ r. ⌜ RowSpans valueView (now (first .entry)) (now (second .entry)) at r ⌝ }
+{
+    if !headers_hold(first, second) {
+        return RowSpan::Refused(Refusal::BadImage);
+    }
+    let Cursor::On(p) = at else {
+        return RowSpan::Nowhere;
+    };
+    value_span_at(first, second, p)
+}
