@@ -16,7 +16,7 @@ use Rattle.rule.proofs.Rows.{pairwise-single}
 use Rattle.image.specs.Words.{word, putWord, putWords}
 use Rattle.image.specs.Entries.{encode, lenAt, keyedAt, restAt}
 use Rattle.image.specs.Nodes.{leadAt, heightOf, entryOf, linkOf}
-use Rattle.image.specs.Sound.{headerHolds, held}
+use Rattle.image.specs.Sound.{Sound, headerHolds, held}
 use Rattle.image.specs.Search.{find, look}
 use Rattle.image.specs.Fresh.{freshImage}
 use Rattle.image.specs.Add.{nodeWritten, written, add, afterwards}
@@ -27,11 +27,13 @@ use Rattle.table.specs.Memtable.{Adds}
 use Rattle.table.specs.Growth.{Begun, Additions}
 use Rattle.table.specs.Growth as growth
 use Rattle.table.proofs.Answers.{fresh-done, adds}
+use Rattle.table.proofs.Growth.{add-keeps, add-node, begun-sound, additions-grow, additions-held, filled-held}
 use Rattle.table.specs.declared.memtable.Added.the-variants as added
-use Rattle.cursor.specs.Places.{place, entryAt, earlier, PlaceIn}
+use Rattle.cursor.specs.Places.{imageOf, place, entryAt, earlier, PlaceIn}
 use Rattle.cursor.specs.Moves.{keyGiven, startKey}
 use Rattle.cursor.specs.Rows.{valueIn}
 use Rattle.cursor.specs.Runs.{Tables, entriesOf, Moment, seenIn, Run, begun, moved, Alike, Lockstep}
+use Rattle.cursor.specs.declared.places.Side.{Side}
 use Rattle.cursor.specs.declared.places.Side.the-variants.{First, Second}
 use Rattle.cursor.specs.declared.places.Place.{Place}
 use Rattle.cursor.specs.declared.places.Cursor.{Cursor}
@@ -94,47 +96,80 @@ right = record { first = p0; second = q2 }
 freshly : (xs : List ℕ) → 64 ≤ length xs → length xs ≤ 65536 → Begun (freshImage xs)
 freshly xs m n = record { lent = xs; made = fresh-done xs m n (freshImage xs) refl }
 
--- and the additions are accepted
+-- and the additions are accepted: this alone is computed from the bytes
 pub adding-a : Adds f0 (put a 1 x) 1 (added.Node 1) f1
 unfolding compareKeys compareEntries headerHolds add find look word putWord putWords linkOf heightOf entryOf nodeWritten written lenAt keyedAt restAt encode leadAt
 adding-a = adds f0 (put a 1 x) 1 (added.Node 1) f1 refl refl
+
+adding-later : Adds f1 (gone a 7) 2 (added.Node 2) f2
+unfolding compareKeys compareEntries headerHolds add find look word putWord putWords linkOf heightOf entryOf nodeWritten written lenAt keyedAt restAt encode leadAt
+adding-later = adds f1 (gone a 7) 2 (added.Node 2) f2 refl refl
+
+adding-b : Adds g0 (put b 2 y) 2 (added.Node 1) g1
+unfolding compareKeys compareEntries headerHolds add find look word putWord putWords linkOf heightOf entryOf nodeWritten written lenAt keyedAt restAt encode leadAt
+adding-b = adds g0 (put b 2 y) 2 (added.Node 1) g1 refl refl
+
+adding-b′ : Adds q0 (put b 2 y) 1 (added.Node 1) q1
+unfolding compareKeys compareEntries headerHolds add find look word putWord putWords linkOf heightOf entryOf nodeWritten written lenAt keyedAt restAt encode leadAt
+adding-b′ = adds q0 (put b 2 y) 1 (added.Node 1) q1 refl refl
+
+adding-a′ : Adds q1 (put a 1 x) 3 (added.Node 2) q2
+unfolding compareKeys compareEntries headerHolds add find look word putWord putWords linkOf heightOf entryOf nodeWritten written lenAt keyedAt restAt encode leadAt
+adding-a′ = adds q1 (put a 1 x) 3 (added.Node 2) q2 refl refl
 
 add-a : Additions f0 (put a 1 x ∷ []) f1
 add-a = growth.more (put a 1 x) 1 1 adding-a growth.none
 
 add-later : Additions f1 (gone a 7 ∷ []) f2
-unfolding compareKeys compareEntries headerHolds add find look word putWord putWords linkOf heightOf entryOf nodeWritten written lenAt keyedAt restAt encode leadAt
-add-later = growth.more (gone a 7) 2 2 (adds f1 (gone a 7) 2 (added.Node 2) f2 refl refl) growth.none
+add-later = growth.more (gone a 7) 2 2 adding-later growth.none
 
 add-b : Additions g0 (put b 2 y ∷ []) g1
-unfolding compareKeys compareEntries headerHolds add find look word putWord putWords linkOf heightOf entryOf nodeWritten written lenAt keyedAt restAt encode leadAt
-add-b = growth.more (put b 2 y) 2 1 (adds g0 (put b 2 y) 2 (added.Node 1) g1 refl refl) growth.none
+add-b = growth.more (put b 2 y) 2 1 adding-b growth.none
 
 add-both : Additions q0 (put b 2 y ∷ put a 1 x ∷ []) q2
-unfolding compareKeys compareEntries headerHolds add find look word putWord putWords linkOf heightOf entryOf nodeWritten written lenAt keyedAt restAt encode leadAt
-add-both = growth.more (put b 2 y) 1 1 (adds q0 (put b 2 y) 1 (added.Node 1) q1 refl refl) (growth.more (put a 1 x) 3 2 (adds q1 (put a 1 x) 3 (added.Node 2) q2 refl refl) growth.none)
+add-both = growth.more (put b 2 y) 1 1 adding-b′ (growth.more (put a 1 x) 3 2 adding-a′ growth.none)
+
+-- so each is sound, and holds what was added
+sound-f0 : Sound f0
+sound-f0 = begun-sound f0 (freshly (replicate 125 0xa5) (omega arith) (omega arith)) .0
+
+sound-f1 : Sound f1
+sound-f1 = additions-grow sound-f0 add-a .sound
+
+sound-g0 : Sound g0
+sound-g0 = begun-sound g0 (freshly (replicate 100 0) (omega arith) (omega arith)) .0
+
+sound-q0 : Sound q0
+sound-q0 = begun-sound q0 (freshly (replicate 130 0x11) (omega arith) (omega arith)) .0
+
+sound-q1 : Sound q1
+sound-q1 = adding-b′ .rule sound-q0 .0
+
+held-f1 : held f1 ≡ put a 1 x ∷ []
+held-f1 = filled-held (put a 1 x ∷ []) f1 (record { start = f0; begun = freshly (replicate 125 0xa5) (omega arith) (omega arith); additions = add-a })
+
+held-f2 : held f2 ≡ put a 1 x ∷ gone a 7 ∷ []
+held-f2 = additions-held sound-f1 add-later ∙ ap (λ (es : List Entry). es ++ (gone a 7 ∷ [])) held-f1
+
+held-g1 : held g1 ≡ put b 2 y ∷ []
+held-g1 = filled-held (put b 2 y ∷ []) g1 (record { start = g0; begun = freshly (replicate 100 0) (omega arith) (omega arith); additions = add-b })
+
+held-q2 : held q2 ≡ put b 2 y ∷ put a 1 x ∷ []
+held-q2 = filled-held (put b 2 y ∷ put a 1 x ∷ []) q2 (record { start = q0; begun = freshly (replicate 130 0x11) (omega arith) (omega arith); additions = add-both })
+
+held-none : held p0 ≡ []
+held-none = begun-sound p0 (freshly (replicate 64 0xff) (omega arith) (omega arith)) .1
 
 -- ---- the entries up to 2 are the same in both pairs
 
 pub held-left : entriesOf left ≡ put a 1 x ∷ put b 2 y ∷ []
-unfolding compareKeys compareEntries headerHolds add find look word putWord putWords linkOf heightOf entryOf nodeWritten written lenAt keyedAt restAt encode leadAt
-held-left = refl
+held-left = rw (held-f1, held-g1)
 
 held-later : entriesOf leftLater ≡ put a 1 x ∷ gone a 7 ∷ put b 2 y ∷ []
-unfolding compareKeys compareEntries headerHolds add find look word putWord putWords linkOf heightOf entryOf nodeWritten written lenAt keyedAt restAt encode leadAt
-held-later = refl
+held-later = rw (held-f2, held-g1)
 
 held-right : entriesOf right ≡ put b 2 y ∷ put a 1 x ∷ []
-unfolding compareKeys compareEntries headerHolds add find look word putWord putWords linkOf heightOf entryOf nodeWritten written lenAt keyedAt restAt encode leadAt
-held-right = refl
-
-held-first : held f2 ≡ put a 1 x ∷ gone a 7 ∷ []
-unfolding compareKeys compareEntries headerHolds add find look word putWord putWords linkOf heightOf entryOf nodeWritten written lenAt keyedAt restAt encode leadAt
-held-first = refl
-
-held-none : held p0 ≡ []
-unfolding word
-held-none = refl
+held-right = rw (held-none, held-q2)
 
 agree-by : (s : ℕ) (es fs : List Entry) → All (λ e. e .number ≤ s → List·Memᴰ e fs) es → All (λ e. e .number ≤ s → List·Memᴰ e es) fs → Agree s es fs
 agree-by s es fs i j e h = (λ m. i e m h, λ m. j e m h)
@@ -165,25 +200,24 @@ pub record Stands (t : Tables) (p : Place) (e : Entry) : Type 0 where
   pub inside : PlaceIn (t .first) (t .second) p
   pub entry : entryAt (t .first) (t .second) p ≡ e
 
+-- a node that was just added
+stands : (t : Tables) (side : Side) (xs : List ℕ) → Sound xs → (e : Entry) (h i : ℕ) → Adds xs e h (added.Node i) (imageOf side (t .first) (t .second)) → Stands t (place side i) e
+stands t side xs s e h i d = let (n, q) = add-node xs s e h i (imageOf side (t .first) (t .second)) d in record { inside = n; entry = q }
+
 pub left-a : Stands left (place First 1) (put a 1 x)
-unfolding compareKeys compareEntries headerHolds add find look word putWord putWords linkOf heightOf entryOf nodeWritten written lenAt keyedAt restAt encode leadAt
-left-a = record { inside = record { some = omega arith; most = omega arith }; entry = refl }
+left-a = stands left First f0 sound-f0 (put a 1 x) 1 1 adding-a
 
 later-a : Stands leftLater (place First 1) (put a 1 x)
-unfolding compareKeys compareEntries headerHolds add find look word putWord putWords linkOf heightOf entryOf nodeWritten written lenAt keyedAt restAt encode leadAt
-later-a = record { inside = record { some = omega arith; most = omega arith }; entry = refl }
+later-a = let g = add-keeps f1 sound-f1 (gone a 7) 2 2 f2 adding-later in record { inside = g .node-kept 1 (left-a .inside); entry = g .entry-kept 1 (left-a .inside) ∙ left-a .entry }
 
 later-b : Stands leftLater (place Second 1) (put b 2 y)
-unfolding compareKeys compareEntries headerHolds add find look word putWord putWords linkOf heightOf entryOf nodeWritten written lenAt keyedAt restAt encode leadAt
-later-b = record { inside = record { some = omega arith; most = omega arith }; entry = refl }
+later-b = stands leftLater Second g0 sound-g0 (put b 2 y) 2 1 adding-b
 
 right-a : Stands right (place Second 2) (put a 1 x)
-unfolding compareKeys compareEntries headerHolds add find look word putWord putWords linkOf heightOf entryOf nodeWritten written lenAt keyedAt restAt encode leadAt
-right-a = record { inside = record { some = omega arith; most = omega arith }; entry = refl }
+right-a = stands right Second q1 sound-q1 (put a 1 x) 3 2 adding-a′
 
 right-b : Stands right (place Second 1) (put b 2 y)
-unfolding compareKeys compareEntries headerHolds add find look word putWord putWords linkOf heightOf entryOf nodeWritten written lenAt keyedAt restAt encode leadAt
-right-b = record { inside = record { some = omega arith; most = omega arith }; entry = refl }
+right-b = let g = add-keeps q1 sound-q1 (put a 1 x) 3 2 q2 adding-a′ in let (n, q) = add-node q0 sound-q0 (put b 2 y) 1 1 q1 adding-b′ in record { inside = g .node-kept 1 n; entry = g .entry-kept 1 n ∙ q }
 
 -- ---- the moves: first, next, previous
 
@@ -227,7 +261,7 @@ unfolding compareKeys
 left-run =
     let m = goes left-begun add-a add-b first refl (put a 1 x ∷ put b 2 y ∷ []) held-left none refl (place First 1) (put a 1 x) left-a refl refl refl (all-nil _) in
     let n = goes m add-later growth.none next refl (put a 1 x ∷ gone a 7 ∷ put b 2 y ∷ []) held-later (some a) (ap (λ (e : Entry). some (e .key)) (later-a .entry)) (place Second 1) (put b 2 y) later-b refl refl refl
-    (rw held-first (all-cons (λ h. absurd (false≢true h)) (all-cons (λ h. absurd (false≢true h)) (all-nil _)))) in
+    (rw held-f2 (all-cons (λ h. absurd (false≢true h)) (all-cons (λ h. absurd (false≢true h)) (all-nil _)))) in
     goes n growth.none growth.none previous refl (put a 1 x ∷ gone a 7 ∷ put b 2 y ∷ []) held-later (some b) (ap (λ (e : Entry). some (e .key)) (later-b .entry)) (place First 1) (put a 1 x) later-a refl refl refl (all-nil _)
 
 right-run : Run 2 right (On (place Second 2)) (moment right previous a x ∷ moment right next b y ∷ moment right first a x ∷ [])

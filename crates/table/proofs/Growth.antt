@@ -10,9 +10,11 @@ use Rattle.rule.specs.Lists.{both}
 use Rattle.rule.specs.Entries.{Entry}
 use Rattle.rule.proofs.Lists.{both-true}
 use Rattle.image.specs.Limits.{headerSize, maxImage}
+use Rattle.image.specs.Nodes.{entryOf}
 use Rattle.image.specs.Sound.{Sound, held}
 use Rattle.image.specs.Refusals.{badImage, given}
 use Rattle.image.specs.Fresh.{freshImage, fresh}
+use Rattle.image.specs.Meaning.{IsNode}
 use Rattle.image.proofs.Refusals.{demand-given}
 use Rattle.image.proofs.Add.{add-added}
 use Rattle.table.specs.Memtable.{Freshens, Adds}
@@ -30,7 +32,12 @@ add-keeps xs s e h i ys a = let (prev, _, g) = add-added xs s e h (record { node
   entry-kept = λ j n. g .entries-kept j (n .some) (n .most);
 }
 
--- so do none, and one after the other
+-- the new node has the entry
+pub add-node : (xs : List ℕ) → Sound xs → (e : Entry) (h i : ℕ) (ys : List ℕ) → Adds xs e h (added.Node i) ys → IsNode ys i × (entryOf ys i ≡ e)
+add-node xs s e h i ys a = let (prev, n, g) = add-added xs s e h (record { node = i; image = ys }) (sym (a .exact)) in
+    (record { some = omega (arith, n); most = omega (arith, n, g .one-more) }, ap (entryOf ys) n ∙ g .entry-new)
+
+-- nodes are kept by no addition, and by one after the other
 pub grows-not : (xs : List ℕ) → Sound xs → Grows xs xs
 grows-not xs s = record { sound = s; node-kept = λ j n. n; entry-kept = λ j n. refl }
 
