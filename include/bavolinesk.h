@@ -1,9 +1,9 @@
 /* Bavolinesk: a snapshot table in memory that others can scribble on, for C99 and C++ on 64-bit x86 Linux.
  *
- * A table is an image: a part of memory that the caller lends, 64 to 65,536 bytes, with no alignment asked. It holds entries, each a key, a
- * number, a type (value or deletion) and a value. A reader asks for the rows at a snapshot: of each key the entry with the highest
- * number up to the snapshot, if that is a value. Keys go in the order of their unsigned bytes, a proper prefix first; entries of
- * one key by descending number.
+ * A table is an image: a part of memory that the caller lends, 64 to 65,536 bytes, with no alignment asked. It holds entries, each
+ * a key, a number, a type (value or deletion) and a value. A reader asks for the rows at a snapshot: of each key the entry with
+ * the highest number up to the snapshot, if that is a value. Keys go in the order of their unsigned bytes, a proper prefix first;
+ * entries of one key by descending number.
  *
  * What holds of every call:
  * - It takes any bytes as an image and any numbers as a cursor, and returns; no search looks at more links than the image's count
@@ -22,7 +22,8 @@
  * - The parts lent to one call do not overlap if one of them is an image that the call may write. Where it writes none, they may:
  *   the same image may be both tables, and a key may lie in an image.
  *
- * Link with target/staticlib/libcapi.a. Every call is proved to do what the definitions in crates/capi/specs and in the crates below say.
+ * Link with target/staticlib/libcapi.a. Every call is proved to do what the definitions in crates/capi/specs and in the crates
+ * below say.
  */
 #ifndef BAVOLINESK_H
 #define BAVOLINESK_H
@@ -70,8 +71,9 @@ extern "C" {
 #define BAVO_FOUND 1u    /* the newest one is a value: it is at `node` */
 #define BAVO_DELETED 2u  /* the newest one is a deletion */
 
-/* ---- where a cursor is: `on` of an entry cursor is BAVO_NOWHERE or BAVO_ON, `table` of the others BAVO_NOWHERE, BAVO_FIRST or BAVO_SECOND.
- *      A larger number is refused with 10, like a cursor on a node that the table does not have. */
+/* ---- where a cursor is: `on` of an entry cursor is BAVO_NOWHERE or BAVO_ON; `table` of a visible cursor, and of what stands at
+ *      it, is BAVO_NOWHERE, BAVO_FIRST or BAVO_SECOND. A larger number in a cursor is refused with 10, like a node that the table
+ *      does not have. */
 
 #define BAVO_NOWHERE 0u
 #define BAVO_ON 1u
@@ -113,11 +115,12 @@ typedef struct {
 uint32_t bavo_fresh(uint8_t *image, size_t image_len);
 
 /* Adds an entry in a node of the given height, which the caller draws: 1 for most, each level more for about a quarter as many.
- * It takes 8 bytes, 4 for each level and the entry's bytes where the free part begins, one slot of 4 bytes where it ends, and changes the
- * node count, the first free byte and at most `height` links. Nothing else is touched, on a damaged image too. Nodes keep their
- * numbers and entries, so a stored cursor shows after it what it showed before.
+ * It takes 8 bytes, 4 for each level and the entry's bytes where the free part begins, one slot of 4 bytes where it ends, and
+ * changes the node count, the first free byte and at most `height` links. Nothing else is touched, on a damaged image too. Nodes
+ * keep their numbers and entries, so a stored cursor shows after it what it showed before.
  * Refusals: 1, 2, 3, 4, 5, 6, then 9 or 8, then 7. */
-bavo_added bavo_add(uint8_t *image, size_t image_len, const uint8_t *key, size_t key_len, uint64_t number, uint8_t kind, const uint8_t *value, size_t value_len, size_t height);
+bavo_added bavo_add(uint8_t *image, size_t image_len, const uint8_t *key, size_t key_len, uint64_t number, uint8_t kind,
+    const uint8_t *value, size_t value_len, size_t height);
 
 /* Whether the image is sound: header, nodes, slots, entries and every link are as additions to a fresh image leave them. It refuses
  * nothing; an image whose header does not hold is not sound. */
@@ -125,7 +128,8 @@ bool bavo_check(const uint8_t *image, size_t image_len);
 
 /* Whether the entry of this key, number and type is held.
  * Refusals: 1, 2, 3, 4, 9. */
-bavo_presence bavo_contains(const uint8_t *image, size_t image_len, const uint8_t *key, size_t key_len, uint64_t number, uint8_t kind);
+bavo_presence bavo_contains(const uint8_t *image, size_t image_len, const uint8_t *key, size_t key_len, uint64_t number,
+    uint8_t kind);
 
 /* The newest entry of a key up to a snapshot.
  * Refusals: 1, 3, 4, 9. */
@@ -159,7 +163,8 @@ bavo_entry_moved bavo_entry_first(const uint8_t *image, size_t image_len, bavo_e
 
 /* To the first entry at or after the key and number in the order; nowhere if there is none. The cursor is tested, and else not used.
  * Refusals: 1, 10, 3, 4, 9. */
-bavo_entry_moved bavo_entry_seek(const uint8_t *image, size_t image_len, bavo_entry_cursor at, const uint8_t *key, size_t key_len, uint64_t number);
+bavo_entry_moved bavo_entry_seek(const uint8_t *image, size_t image_len, bavo_entry_cursor at, const uint8_t *key,
+    size_t key_len, uint64_t number);
 
 /* To the entry after the cursor's; from nowhere to the first, from the last nowhere.
  * Refusals: 1, 10, 9. */
@@ -211,8 +216,8 @@ typedef struct {
     size_t node;
 } bavo_moved;
 
-/* A part of the first (1) or of the second (2) image: `length` bytes from `offset`, within that image. The part of a deletion's value is
- * the empty one at 0 of its image. Refused, and nowhere: 0, 0, 0. */
+/* A part of the first (1) or of the second (2) image: `length` bytes from `offset`, within that image. The part of a deletion's
+ * value is the empty one at 0 of its image. Refused, and nowhere: 0, 0, 0. */
 typedef struct {
     uint32_t refusal;
     uint32_t table;
@@ -222,26 +227,31 @@ typedef struct {
 
 /* The newest entry of a key up to a snapshot: the first table is asked, the second only if the first says absent.
  * Refusals: 1 (first table, then second), 3, 4, 9. */
-bavo_pair_lookup bavo_pair_get(const uint8_t *first, size_t first_len, const uint8_t *second, size_t second_len, const uint8_t *key, size_t key_len, uint64_t snapshot);
+bavo_pair_lookup bavo_pair_get(const uint8_t *first, size_t first_len, const uint8_t *second, size_t second_len,
+    const uint8_t *key, size_t key_len, uint64_t snapshot);
 
-/* The moves of the visible cursor go over the keys that have a row at the snapshot, over both tables together. Each answers from the entries
- * that are held at that call; the place that it leads to is the entry that gives the row. */
+/* The moves of the visible cursor go over the keys that have a row at the snapshot, over both tables together. Each answers from
+ * the entries that are held at that call; the place that it leads to is the entry that gives the row. */
 
 /* To the least key with a row; nowhere if there is none. The cursor that is handed is tested, and else not used.
  * Refusals: 1 (first table, then second), 10, 3, 9. */
-bavo_moved bavo_first(const uint8_t *first, size_t first_len, const uint8_t *second, size_t second_len, uint64_t snapshot, bavo_cursor at);
+bavo_moved bavo_first(const uint8_t *first, size_t first_len, const uint8_t *second, size_t second_len, uint64_t snapshot,
+    bavo_cursor at);
 
 /* To the least key with a row, at or above the given one; nowhere if there is none. The cursor is tested, and else not used.
  * Refusals: 1 (first table, then second), 10, 3, 4, 9. */
-bavo_moved bavo_seek(const uint8_t *first, size_t first_len, const uint8_t *second, size_t second_len, uint64_t snapshot, bavo_cursor at, const uint8_t *key, size_t key_len);
+bavo_moved bavo_seek(const uint8_t *first, size_t first_len, const uint8_t *second, size_t second_len, uint64_t snapshot,
+    bavo_cursor at, const uint8_t *key, size_t key_len);
 
 /* To the least key with a row above the cursor's; from nowhere to the least of all, from the last nowhere.
  * Refusals: 1 (first table, then second), 10, 3, 9. */
-bavo_moved bavo_next(const uint8_t *first, size_t first_len, const uint8_t *second, size_t second_len, uint64_t snapshot, bavo_cursor at);
+bavo_moved bavo_next(const uint8_t *first, size_t first_len, const uint8_t *second, size_t second_len, uint64_t snapshot,
+    bavo_cursor at);
 
 /* To the greatest key with a row below the cursor's; from nowhere and from the first nowhere.
  * Refusals: 1 (first table, then second), 10, 3, 9. */
-bavo_moved bavo_prev(const uint8_t *first, size_t first_len, const uint8_t *second, size_t second_len, uint64_t snapshot, bavo_cursor at);
+bavo_moved bavo_prev(const uint8_t *first, size_t first_len, const uint8_t *second, size_t second_len, uint64_t snapshot,
+    bavo_cursor at);
 
 /* The key of the node at a cursor. No snapshot is asked for: a stored cursor shows the same whatever is added.
  * Refusals: 1 (first table, then second), 10, 9. */

@@ -1,4 +1,5 @@
-/* Calls every function of bavolinesk.h and compares the whole answer with the one that document 01 fixes: each field, each refusal in its
+/* Calls every function of bavolinesk.h and compares the whole answer with the one that document 01 fixes: each field,
+        each refusal in its
  * order, and that a refusal keeps every lent byte. Prints how many comparisons were made and which failed; returns 1 if one did.
  *
  *     rt staticlib capi
@@ -23,14 +24,25 @@ static void same(int line, unsigned long long got, unsigned long long due)
 #define SAME(got, due) same(__LINE__, (unsigned long long)(got), (unsigned long long)(due))
 
 /* Every field of an answer, in the header's order. */
-#define ADDED(call, refusal_, node_) do { bavo_added r = (call); SAME(r.refusal, refusal_); SAME(r.node, node_); } while (0)
-#define LOOKUP(call, refusal_, answer_, node_, looks_) do { bavo_lookup r = (call); SAME(r.refusal, refusal_); SAME(r.answer, answer_); SAME(r.node, node_); SAME(r.looks, looks_); } while (0)
-#define PRESENCE(call, refusal_, held_, looks_) do { bavo_presence r = (call); SAME(r.refusal, refusal_); SAME(r.held, held_); SAME(r.looks, looks_); } while (0)
-#define VIEW(call, refusal_, offset_, length_) do { bavo_view r = (call); SAME(r.refusal, refusal_); SAME(r.offset, offset_); SAME(r.length, length_); } while (0)
-#define ENTRY(call, refusal_, on_, node_) do { bavo_entry_moved r = (call); SAME(r.refusal, refusal_); SAME(r.on, on_); SAME(r.node, node_); } while (0)
-#define PAIR(call, refusal_, answer_, table_, node_, looks_) do { bavo_pair_lookup r = (call); SAME(r.refusal, refusal_); SAME(r.answer, answer_); SAME(r.table, table_); SAME(r.node, node_); SAME(r.looks, looks_); } while (0)
-#define MOVED(call, refusal_, table_, node_) do { bavo_moved r = (call); SAME(r.refusal, refusal_); SAME(r.table, table_); SAME(r.node, node_); } while (0)
-#define ROW(call, refusal_, table_, offset_, length_) do { bavo_row_view r = (call); SAME(r.refusal, refusal_); SAME(r.table, table_); SAME(r.offset, offset_); SAME(r.length, length_); } while (0)
+#define ADDED(call, refusal_, node_) \
+    do { bavo_added r = (call); SAME(r.refusal, refusal_); SAME(r.node, node_); } while (0)
+#define LOOKUP(call, refusal_, answer_, node_, looks_) \
+    do { bavo_lookup r = (call); SAME(r.refusal, refusal_); SAME(r.answer, answer_); SAME(r.node, node_); \
+        SAME(r.looks, looks_); } while (0)
+#define PRESENCE(call, refusal_, held_, looks_) \
+    do { bavo_presence r = (call); SAME(r.refusal, refusal_); SAME(r.held, held_); SAME(r.looks, looks_); } while (0)
+#define VIEW(call, refusal_, offset_, length_) \
+    do { bavo_view r = (call); SAME(r.refusal, refusal_); SAME(r.offset, offset_); SAME(r.length, length_); } while (0)
+#define ENTRY(call, refusal_, on_, node_) \
+    do { bavo_entry_moved r = (call); SAME(r.refusal, refusal_); SAME(r.on, on_); SAME(r.node, node_); } while (0)
+#define PAIR(call, refusal_, answer_, table_, node_, looks_) \
+    do { bavo_pair_lookup r = (call); SAME(r.refusal, refusal_); SAME(r.answer, answer_); \
+        SAME(r.table, table_); SAME(r.node, node_); SAME(r.looks, looks_); } while (0)
+#define MOVED(call, refusal_, table_, node_) \
+    do { bavo_moved r = (call); SAME(r.refusal, refusal_); SAME(r.table, table_); SAME(r.node, node_); } while (0)
+#define ROW(call, refusal_, table_, offset_, length_) \
+    do { bavo_row_view r = (call); SAME(r.refusal, refusal_); SAME(r.table, table_); SAME(r.offset, offset_); \
+        SAME(r.length, length_); } while (0)
 
 #define B(text) ((const uint8_t *)(text))
 
@@ -84,9 +96,12 @@ static void addition_refused(uint8_t *image, size_t len)
     ADDED(bavo_add(image, len, B("a"), 1, 1, 1, B(""), 0, BAVO_MAX_HEIGHT + 1), BAVO_BAD_HEIGHT, 0);
     ADDED(bavo_add(image, len, B("a"), 1, 1, 1, long_part, BAVO_MAX_VALUE + 1, 0), BAVO_LONG_VALUE, 0);
     ADDED(bavo_add(image, len, long_part, BAVO_MAX_KEY + 1, 1, 1, long_part, BAVO_MAX_VALUE + 1, 0), BAVO_LONG_KEY, 0);
-    ADDED(bavo_add(image, len, long_part, BAVO_MAX_KEY + 1, BAVO_MAX_NUMBER + 1, 1, long_part, BAVO_MAX_VALUE + 1, 0), BAVO_BAD_NUMBER, 0);
-    ADDED(bavo_add(image, len, long_part, BAVO_MAX_KEY + 1, BAVO_MAX_NUMBER + 1, 2, long_part, BAVO_MAX_VALUE + 1, 0), BAVO_BAD_KIND, 0);
-    ADDED(bavo_add(image, len - 1, long_part, BAVO_MAX_KEY + 1, BAVO_MAX_NUMBER + 1, 2, long_part, BAVO_MAX_VALUE + 1, 0), BAVO_BAD_IMAGE, 0);
+    ADDED(bavo_add(image, len, long_part, BAVO_MAX_KEY + 1, BAVO_MAX_NUMBER + 1, 1, long_part, BAVO_MAX_VALUE + 1, 0),
+        BAVO_BAD_NUMBER, 0);
+    ADDED(bavo_add(image, len, long_part, BAVO_MAX_KEY + 1, BAVO_MAX_NUMBER + 1, 2, long_part, BAVO_MAX_VALUE + 1, 0),
+        BAVO_BAD_KIND, 0);
+    ADDED(bavo_add(image, len - 1, long_part, BAVO_MAX_KEY + 1, BAVO_MAX_NUMBER + 1, 2, long_part, BAVO_MAX_VALUE + 1, 0),
+        BAVO_BAD_IMAGE, 0);
     SAME(memcmp(kept, image, len), 0);
 }
 
@@ -109,7 +124,8 @@ static void make_newer(uint8_t *image, size_t len)
     SAME(bavo_check(image, len), true);
 }
 
-/* Presence, lookup and value in one table. All nodes have height 1: a search looks at eleven empty links, then along the lowest chain. */
+/* Presence, lookup and value in one table. All nodes have height 1: a search looks at eleven empty links,
+        then along the lowest chain. */
 static void questions(const uint8_t *older, const uint8_t *newer, size_t len)
 {
     PRESENCE(bavo_contains(older, len, B("b"), 1, 2, BAVO_KIND_VALUE), BAVO_DONE, 1, 13);
@@ -253,7 +269,7 @@ static void damage(uint8_t *f, uint8_t *g, size_t n)
 
 int main(void)
 {
-    uint8_t older[200], newer[200];
+    uint8_t older[200] = {0}, newer[200] = {0};
     fresh();
     first_addition();
     make_older(older, sizeof older);

@@ -1,7 +1,7 @@
-/* The riser's story. A management controller puts each accelerator function that it finds into a table and deletes each one that it loses;
- * the host reads the rows at a snapshot, upward and downward, over a newer and an older table. A cheap riser drops its link and
- * retrains: while it is gone no pass may show its gpu, upward or downward. Then a card scribbles on the older table, and still every
- * call returns. The program prints what it does, compares each answer with what is due, and returns 1 if one is off.
+/* The riser's story. A management controller puts each accelerator function that it finds into a table and deletes each one that
+ * it loses; the host reads the rows at a snapshot, upward and downward, over a newer and an older table. A cheap riser drops its
+ * link and retrains: while it is gone no pass may show its gpu, upward or downward. Then a card scribbles on the older table, and
+ * still every call returns. The program prints what it does, compares each answer with what is due, and returns 1 if one is off.
  *
  *     rt staticlib capi
  *     gcc -std=c99 -Wall -Wextra -Werror -Iinclude host/c/example.c target/staticlib/libcapi.a -o target/c-example
@@ -45,14 +45,16 @@ static const char *refusal_name(uint32_t refusal)
 
 static void found(uint8_t *table, const char *function, uint64_t number, const char *lanes, size_t height)
 {
-    bavo_added added = bavo_add(table, IMAGE, bytes(function), strlen(function), number, BAVO_KIND_VALUE, bytes(lanes), strlen(lanes), height);
+    bavo_added added = bavo_add(table, IMAGE, bytes(function), strlen(function), number, BAVO_KIND_VALUE,
+        bytes(lanes), strlen(lanes), height);
     printf("controller: %llu found %s, %s, node %zu\n", (unsigned long long)number, function, lanes, added.node);
     due(added.refusal == BAVO_DONE && added.node > 0, "the addition is accepted");
 }
 
 static void lost(uint8_t *table, const char *function, uint64_t number)
 {
-    bavo_added added = bavo_add(table, IMAGE, bytes(function), strlen(function), number, BAVO_KIND_DELETION, bytes(""), 0, 1);
+    bavo_added added = bavo_add(table, IMAGE, bytes(function), strlen(function), number, BAVO_KIND_DELETION,
+        bytes(""), 0, 1);
     printf("controller: %llu lost %s, node %zu\n", (unsigned long long)number, function, added.node);
     due(added.refusal == BAVO_DONE && added.node > 0, "the deletion is accepted");
 }
@@ -86,13 +88,15 @@ static void show(const char *way, uint64_t snapshot, bavo_moved moved, const row
     else if (moved.table == BAVO_NOWHERE)
         printf("no more\n");
     else
-        printf("%.*s %.*s (table %u, node %zu)\n", (int)key.length, (const char *)part(key), (int)value.length, (const char *)part(value), moved.table, moved.node);
+        printf("%.*s %.*s (table %u, node %zu)\n", (int)key.length, (const char *)part(key), (int)value.length,
+            (const char *)part(value), moved.table, moved.node);
     due(moved.refusal == BAVO_DONE, "the move is accepted");
     due(bavo_row_refusal(newer, IMAGE, older, IMAGE, at) == BAVO_DONE, "the views are accepted");
     if (want == NULL)
         due(moved.table == BAVO_NOWHERE, "no row is shown");
     else
-        due(moved.table != BAVO_NOWHERE && is_text(key, want->function) && is_text(value, want->lanes), "the row is the one that is due");
+        due(moved.table != BAVO_NOWHERE && is_text(key, want->function) && is_text(value, want->lanes),
+            "the row is the one that is due");
 }
 
 /* Reads every row upward and then, from the last one, downward. */
@@ -121,7 +125,8 @@ static void look_up(const char *function, uint64_t snapshot, uint32_t answer)
 {
     static const char *const names[] = {"absent", "found", "deleted"};
     bavo_pair_lookup lookup = bavo_pair_get(newer, IMAGE, older, IMAGE, bytes(function), strlen(function), snapshot);
-    printf("host: %s at %llu: %s after %zu looks\n", function, (unsigned long long)snapshot, lookup.answer <= BAVO_DELETED ? names[lookup.answer] : "?", lookup.looks);
+    const char *says = lookup.answer <= BAVO_DELETED ? names[lookup.answer] : "unknown";
+    printf("host: %s at %llu: %s after %zu looks\n", function, (unsigned long long)snapshot, says, lookup.looks);
     due(lookup.refusal == BAVO_DONE && lookup.answer == answer, "the lookup says what is due");
 }
 
@@ -151,7 +156,8 @@ static void scribble(void)
     due(lookup.refusal == BAVO_DAMAGED, "the search ends and says damage");
     bavo_moved moved = bavo_seek(newer, IMAGE, older, IMAGE, 5, at, bytes("pcie"), 4);
     printf("host: seek over both tables: refusal %u, %s\n", moved.refusal, refusal_name(moved.refusal));
-    due(moved.refusal == BAVO_DAMAGED && moved.table == at.table && moved.node == at.node, "a refused move hands back the cursor");
+    due(moved.refusal == BAVO_DAMAGED && moved.table == at.table && moved.node == at.node,
+        "a refused move hands back the cursor");
 }
 
 int main(void)
