@@ -1,1 +1,12 @@
+//! Runs of the library against a plain model, LevelDB and damage; benchmarks; a recorder. The tools are in src/bin.
 
+#[cfg(leveldb)]
+pub mod against_leveldb;
+pub mod args;
+pub mod gen;
+#[cfg(leveldb)]
+pub mod leveldb;
+pub mod model;
+pub mod moves;
+pub mod rng;
+pub mod script;
