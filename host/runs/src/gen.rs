@@ -58,7 +58,7 @@ impl Shape {
             0 => rng.below(8) as u64,
             1 => rng.below(200) as u64,
             2 => *rng.pick(&[0, 1, MAX_NUMBER - 1, MAX_NUMBER]),
-            _ => rng.next() & MAX_NUMBER,
+            _ => rng.word() & MAX_NUMBER,
         }
     }
 

@@ -3,7 +3,12 @@
 #[cfg(leveldb)]
 pub mod against_leveldb;
 pub mod args;
+pub mod checker;
+pub mod damage;
+mod damage_cursors;
+pub mod draw;
 pub mod gen;
+pub mod harm;
 #[cfg(leveldb)]
 pub mod leveldb;
 pub mod model;

@@ -152,6 +152,15 @@ impl Model {
     }
 
     pub fn add(&mut self, entry: Entry, height: usize) -> (u32, usize) {
+        let added = self.add_unrendered(entry, height);
+        if added.0 == 0 {
+            self.render();
+        }
+        added
+    }
+
+    /// Adds to the lists alone and leaves the image behind.
+    pub fn add_unrendered(&mut self, entry: Entry, height: usize) -> (u32, usize) {
         let refusal = self.refuses(&entry, height);
         if refusal != 0 {
             return (refusal, 0);
@@ -161,7 +170,6 @@ impl Model {
         self.free += 8 + 4 * height + entry.encode().len();
         self.nodes.push(Node { entry, height, offset });
         self.sorted.insert(place, self.nodes.len() - 1);
-        self.render();
         (0, self.nodes.len())
     }
 

@@ -2,8 +2,9 @@
 //   differential [--seed N|clock] [--cases N] [--databases N]
 // The run against the crate is oracle/run differential.
 use runs::args::Args;
+use runs::draw::draw;
 use runs::rng::Rng;
-use runs::script::{draw, run, shrink, Counts};
+use runs::script::{run, shrink, Counts};
 use std::process::exit;
 
 fn against_model(seed: u64, cases: u64) {
