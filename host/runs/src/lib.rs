@@ -3,7 +3,9 @@
 #[cfg(leveldb)]
 pub mod against_leveldb;
 pub mod args;
+pub mod bench;
 pub mod checker;
+pub mod contestants;
 pub mod damage;
 mod damage_cursors;
 pub mod draw;

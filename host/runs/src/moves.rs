@@ -71,7 +71,7 @@ pub fn rows<'m>(first: &'m Model, second: &'m Model, snapshot: u64) -> BTreeMap<
                 continue;
             }
             let held = newest.get(entry.key.as_slice());
-            if held.map_or(true, |&(number, _, _)| number < entry.number) {
+            if held.is_none_or(|&(number, _, _)| number < entry.number) {
                 let at = Cursor { table, node: index + 1 };
                 newest.insert(&entry.key, (entry.number, entry.kind, at));
             }
