@@ -99,6 +99,7 @@ extern "C" {
     pub fn bavo_contains(image: *const u8, image_len: usize, key: *const u8, key_len: usize, number: u64, kind: u8) -> Presence;
     pub fn bavo_get(image: *const u8, image_len: usize, key: *const u8, key_len: usize, snapshot: u64) -> Lookup;
     pub fn bavo_value(image: *const u8, image_len: usize, node: usize) -> View;
+    pub fn bavo_value_refusal(image: *const u8, image_len: usize, node: usize) -> u32;
 
     pub fn bavo_entry_first(image: *const u8, image_len: usize, at: EntryCursor) -> EntryMoved;
     pub fn bavo_entry_seek(image: *const u8, image_len: usize, at: EntryCursor, key: *const u8, key_len: usize, number: u64) -> EntryMoved;
@@ -117,4 +118,5 @@ extern "C" {
     pub fn bavo_prev(first: *const u8, first_len: usize, second: *const u8, second_len: usize, snapshot: u64, at: Cursor) -> Moved;
     pub fn bavo_row_key(first: *const u8, first_len: usize, second: *const u8, second_len: usize, at: Cursor) -> RowView;
     pub fn bavo_row_value(first: *const u8, first_len: usize, second: *const u8, second_len: usize, at: Cursor) -> RowView;
+    pub fn bavo_row_refusal(first: *const u8, first_len: usize, second: *const u8, second_len: usize, at: Cursor) -> u32;
 }

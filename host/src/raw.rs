@@ -121,6 +121,11 @@ pub fn value(image: &[u8], node: usize) -> View {
     unsafe { ffi::bavo_value(image.as_ptr(), image.len(), node) }
 }
 
+/// The refusal that asking for a node's value gets, or 0.
+pub fn value_refusal(image: &[u8], node: usize) -> u32 {
+    unsafe { ffi::bavo_value_refusal(image.as_ptr(), image.len(), node) }
+}
+
 /// The first entry.
 pub fn entry_first(image: &[u8], at: EntryCursor) -> EntryMoved {
     unsafe { ffi::bavo_entry_first(image.as_ptr(), image.len(), at) }
@@ -209,4 +214,10 @@ pub fn row_key(first: &[u8], second: &[u8], at: Cursor) -> RowView {
 pub fn row_value(first: &[u8], second: &[u8], at: Cursor) -> RowView {
     let (one, two) = ((first.as_ptr(), first.len()), (second.as_ptr(), second.len()));
     unsafe { ffi::bavo_row_value(one.0, one.1, two.0, two.1, at) }
+}
+
+/// The refusal that key and value at a cursor get, or 0.
+pub fn row_refusal(first: &[u8], second: &[u8], at: Cursor) -> u32 {
+    let (one, two) = ((first.as_ptr(), first.len()), (second.as_ptr(), second.len()));
+    unsafe { ffi::bavo_row_refusal(one.0, one.1, two.0, two.1, at) }
 }

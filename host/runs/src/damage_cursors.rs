@@ -58,6 +58,7 @@ impl Caller<'_> {
         if on == 1 {
             let found = raw::value(image, node);
             assert_eq!(found, value, "the value of a node");
+            assert_eq!(raw::value_refusal(image, node), refusal);
         }
         self.counts.calls += 4;
         refusal
@@ -101,7 +102,8 @@ impl Caller<'_> {
         let ([one, two], at) = (&images.bytes, self.place(images));
         let key = self.timed(|| raw::row_key(one, two, at));
         let value = self.timed(|| raw::row_value(one, two, at));
-        assert_eq!(key.refusal, value.refusal);
+        let refusal = self.timed(|| raw::row_refusal(one, two, at));
+        assert_eq!((key.refusal, value.refusal), (refusal, refusal));
         let both_sound = images.models.iter().all(Option::is_some);
         refusal_fits(key.refusal, images.names_row(at), both_sound, &[]);
         for view in [key, value] {

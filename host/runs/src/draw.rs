@@ -3,8 +3,8 @@
 use crate::gen::Shape;
 use crate::model::Entry;
 use crate::moves::Move;
+use crate::ops::Op;
 use crate::rng::Rng;
-use crate::script::Op;
 use bavolinesk::raw::{Cursor, EntryCursor};
 
 /// A script of random calls.

@@ -15,5 +15,12 @@ pub mod harm;
 pub mod leveldb;
 pub mod model;
 pub mod moves;
+pub mod ops;
+#[cfg(leveldb)]
+pub mod record_leveldb;
+pub mod record_model;
+pub mod recorder;
+pub mod records;
+pub mod replay;
 pub mod rng;
 pub mod script;

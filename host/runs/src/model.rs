@@ -135,6 +135,15 @@ impl Model {
         self.nodes.get(node.checked_sub(1)?).map(|node| &node.entry)
     }
 
+    /// Where key and value of a node stand in the image, and their lengths; a deletion shows no value.
+    pub fn parts(&self, node: usize) -> Option<[(usize, usize); 2]> {
+        let Node { entry, height, offset } = self.nodes.get(node.checked_sub(1)?)?;
+        let key_at = offset + 8 + 4 * height + if entry.key.len() + 8 < 128 { 1 } else { 2 };
+        let value_end = offset + 8 + 4 * height + entry.encode().len();
+        let value_at = value_end - entry.value.len();
+        Some([(key_at, entry.key.len()), (value_at, entry.shown().len())])
+    }
+
     /// The links that a search for a key and a number examines.
     pub fn looks(&self, key: &[u8], number: u64) -> usize {
         let (mut looks, mut from, mut level) = (0, 0, LEVELS);

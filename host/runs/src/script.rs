@@ -2,40 +2,9 @@
 
 use crate::model::{Answer, Entry, Model};
 use crate::moves::{entry_move, entry_refusal, row_move, row_refusal, table_of, Move};
+use crate::ops::{Counts, Op};
 use bavolinesk::raw::{self, Cursor, EntryCursor};
 use std::fmt::Debug;
-
-#[derive(Clone, Debug)]
-pub enum Op {
-    Fresh(usize, usize, u8),
-    /// Overwrites a field of the header, so that it does not hold.
-    Spoil(usize, usize),
-    Add(usize, Entry, usize),
-    Get(usize, Vec<u8>, u64),
-    Contains(usize, Vec<u8>, u64, u8),
-    Value(usize, usize),
-    Check(usize),
-    /// From the cursor that the script carries, or from any other.
-    EntryMove(usize, Option<EntryCursor>, Move, u64),
-    PairGet(Vec<u8>, u64),
-    RowMove(Option<Cursor>, Move, u64),
-    /// Keeps the visible cursor aside, to be shown again after every call that follows.
-    Keep,
-}
-
-/// How many calls of each name were compared, and how many got each refusal.
-#[derive(Clone, Debug, Default)]
-pub struct Counts {
-    pub adds: u64,
-    pub lookups: u64,
-    pub presences: u64,
-    pub pair_lookups: u64,
-    pub entry_moves: u64,
-    pub moves: u64,
-    pub views: u64,
-    pub checks: u64,
-    pub refusals: [u64; 11],
-}
 
 struct State {
     images: [Box<[u8]>; 2],
@@ -50,6 +19,17 @@ fn same<T: Debug + PartialEq>(what: &str, library: T, model: T) -> Result<(), St
         return Ok(());
     }
     Err(format!("{what}: the library says {library:?}, the model {model:?}"))
+}
+
+// Parts that are not empty stand where the node's own bytes are; without a node they are (0, 0).
+fn stands(expected: Option<[(usize, usize); 2]>, got: [(usize, usize); 2]) -> Result<(), String> {
+    let expected = expected.unwrap_or_default();
+    for (expected, got) in expected.into_iter().zip(got) {
+        if expected.1 > 0 || got.1 > 0 || expected == (0, 0) {
+            same("where a view stands", got, expected)?;
+        }
+    }
+    Ok(())
 }
 
 fn new_table(length: usize, fill: u8) -> (Box<[u8]>, Model, u32, u32) {
@@ -138,6 +118,7 @@ impl State {
                     .map_or(&[][..], Entry::shown);
                 let view = raw::value(&images[*t], *node);
                 same("value", (view.refusal, view.of(&images[*t])), (refusal, expected))?;
+                same("value_refusal", raw::value_refusal(&images[*t], *node), refusal)?;
                 Ok(refusal)
             }
             Op::Check(t) => {
@@ -214,6 +195,8 @@ impl State {
             .filter(|_| refusal == 0 && at.on == 1)
             .unwrap_or(&empty);
         let (key, value) = (raw::entry_key(image, at), raw::entry_value(image, at));
+        let parts = model.parts(at.node).filter(|_| refusal == 0 && at.on == 1);
+        stands(parts, [(key.offset, key.length), (value.offset, value.length)])?;
         same("entry_key", (key.refusal, key.of(image)), (refusal, &entry.key[..]))?;
         same(
             "entry_value",
@@ -227,12 +210,17 @@ impl State {
 
     fn row_views(&self, at: Cursor, counts: &mut Counts) -> Result<(), String> {
         let ([one, two], [first, second]) = (&self.images, &self.models);
-        counts.views += 2;
+        counts.views += 3;
         let refusal = row_refusal(first, second, at);
         let table = table_of(first, second, at).filter(|_| refusal == 0);
         let entry = table.and_then(|model| model.entry(at.node));
         let (key, value) = (raw::row_key(one, two, at), raw::row_value(one, two, at));
         let (model_key, model_value) = entry.map_or((&[][..], &[][..]), |entry| (&entry.key[..], entry.shown()));
+        let parts = table.and_then(|model| model.parts(at.node));
+        stands(parts, [(key.offset, key.length), (value.offset, value.length)])?;
+        let side = if table.is_some() { at.table } else { 0 };
+        same("the image of a row view", (key.table, value.table), (side, side))?;
+        same("row_refusal", raw::row_refusal(one, two, at), refusal)?;
         same("row_key", (key.refusal, key.of(one, two)), (refusal, model_key))?;
         same("row_value", (value.refusal, value.of(one, two)), (refusal, model_value))
     }

@@ -6,8 +6,9 @@ use runs::draw::draw;
 use runs::gen::Shape;
 use runs::harm::harm;
 use runs::model::{Entry, Model};
+use runs::ops::{Counts, Op};
 use runs::rng::Rng;
-use runs::script::{run, shrink, Counts, Op};
+use runs::script::{run, shrink};
 
 #[test]
 fn scripts_agree_with_the_model() {

@@ -3,8 +3,9 @@
 // The run against the crate is oracle/run differential.
 use runs::args::Args;
 use runs::draw::draw;
+use runs::ops::Counts;
 use runs::rng::Rng;
-use runs::script::{run, shrink, Counts};
+use runs::script::{run, shrink};
 use std::process::exit;
 
 fn against_model(seed: u64, cases: u64) {
