@@ -52,7 +52,8 @@ impl Library {
     }
 }
 
-fn value_sum(value: Option<&[u8]>) -> u64 {
+/// A sum over a lookup's answer.
+pub fn value_sum(value: Option<&[u8]>) -> u64 {
     value.map_or(1, |value| row_sum(&[], value))
 }
 
@@ -157,7 +158,8 @@ pub struct Tree {
     both: Versions,
 }
 
-type Versions = BTreeMap<Vec<u8>, Vec<(u64, u8, Vec<u8>)>>;
+type Version = (u64, u8, Vec<u8>);
+type Versions = BTreeMap<Vec<u8>, Vec<Version>>;
 
 fn insert(map: &mut Versions, key: &[u8], number: u64, kind: u8, value: &[u8]) {
     let versions = map.entry(key.to_vec()).or_default();
@@ -165,7 +167,7 @@ fn insert(map: &mut Versions, key: &[u8], number: u64, kind: u8, value: &[u8]) {
     versions.insert(at, (number, kind, value.to_vec()));
 }
 
-fn newest(versions: &[(u64, u8, Vec<u8>)], snapshot: u64) -> Option<&[u8]> {
+fn newest(versions: &[Version], snapshot: u64) -> Option<&[u8]> {
     let version = versions.iter().find(|version| version.0 <= snapshot)?;
     (version.1 == 1).then_some(&version.2)
 }
@@ -188,7 +190,7 @@ impl Contestant for Tree {
     fn run(&mut self, task: Task, input: &Input, times: u64) -> Option<Outcome> {
         let s = input.snapshot;
         let get = |map: &Versions, key: &[u8]| value_sum(map.get(key).and_then(|versions| newest(versions, s)));
-        let shown = |row: (&Vec<u8>, &Vec<(u64, u8, Vec<u8>)>)| newest(row.1, s).map(|value| row_sum(row.0, value));
+        let shown = |row: (&Vec<u8>, &Vec<Version>)| newest(row.1, s).map(|value| row_sum(row.0, value));
         match task {
             Task::Get => timed(|| each(&input.probes, |key| get(&self.first, key))),
             Task::PairGet => timed(|| each(&input.probes, |key| get(&self.both, key))),
@@ -234,107 +236,11 @@ impl Contestant for Tree {
     }
 }
 
-#[cfg(leveldb)]
-pub use with_leveldb::LevelDb;
-
-#[cfg(leveldb)]
-mod with_leveldb {
-    use super::*;
-    use crate::leveldb::{Database, View};
-
-    /// LevelDB: one database with the first table's entries, and one with all of them. Its addition writes a log too.
-    #[derive(Default)]
-    pub struct LevelDb {
-        databases: Option<(Database, Database)>,
-    }
-
-    fn put(database: &Database, item: &crate::bench::Item) {
-        match item.kind {
-            1 => database.put(&item.key, &item.value),
-            _ => database.delete(&item.key),
-        }
-    }
-
-    fn get(view: &View<'_>, key: &[u8]) -> u64 {
-        view.with_value(key, |value| value_sum(Some(value))).unwrap_or(1)
-    }
-
-    impl Contestant for LevelDb {
-        fn name(&self) -> &'static str {
-            "LevelDB 1.23"
-        }
-
-        fn load(&mut self, input: &Input) {
-            self.databases = None;
-            let (first, both) = (Database::new("first"), Database::new("both"));
-            for item in &input.items {
-                put(&both, item);
-                if item.first {
-                    put(&first, item);
-                }
-            }
-            self.databases = Some((first, both));
-        }
-
-        fn run(&mut self, task: Task, input: &Input, times: u64) -> Option<Outcome> {
-            let (first, both) = self.databases.as_ref()?;
-            let (first, both) = (first.view(), both.view());
-            match task {
-                Task::Get => timed(|| each(&input.probes, |key| get(&first, key))),
-                Task::PairGet => timed(|| each(&input.probes, |key| get(&both, key))),
-                Task::Presence | Task::Check => None,
-                Task::Add => {
-                    let database = Database::new("add");
-                    timed(|| {
-                        again(times, || {
-                            input.items.iter().for_each(|item| put(&database, item));
-                            (input.items.len() as u64, input.items.len() as u64)
-                        })
-                    })
-                }
-                Task::Forward | Task::Backward => timed(|| {
-                    again(times, || {
-                        let (mut iter, mut rows, mut sum) = (both.iter(), 0, 0);
-                        match task {
-                            Task::Forward => iter.first(),
-                            _ => iter.last(),
-                        }
-                        while let Some((key, value)) = iter.row() {
-                            rows += 1;
-                            sum += row_sum(key, value);
-                            match task {
-                                Task::Forward => iter.next(),
-                                _ => iter.prev(),
-                            }
-                        }
-                        (rows, sum)
-                    })
-                }),
-                Task::SeekNext => {
-                    let mut iter = both.iter();
-                    timed(|| {
-                        each(&input.probes, |key| {
-                            iter.seek(key);
-                            let mut sum = 0;
-                            for _ in 0..10 {
-                                let Some((key, value)) = iter.row() else { break };
-                                sum += row_sum(key, value);
-                                iter.next();
-                            }
-                            sum
-                        })
-                    })
-                }
-            }
-        }
-    }
-}
-
 /// The library, then LevelDB where it is installed, then a BTreeMap.
 pub fn all() -> Vec<Box<dyn Contestant>> {
     let mut list: Vec<Box<dyn Contestant>> = vec![Box::new(Library::default())];
     #[cfg(leveldb)]
-    list.push(Box::new(LevelDb::default()));
+    list.push(Box::new(crate::bench_leveldb::LevelDb::default()));
     list.push(Box::new(Tree::default()));
     list
 }

@@ -4,6 +4,8 @@
 pub mod against_leveldb;
 pub mod args;
 pub mod bench;
+#[cfg(leveldb)]
+pub mod bench_leveldb;
 pub mod checker;
 pub mod contestants;
 pub mod damage;

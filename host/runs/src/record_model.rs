@@ -1,10 +1,11 @@
 //! The model's answers as records.
 
 use crate::gen::Shape;
-use crate::model::{Answer, Entry};
+use crate::model::Entry;
 use crate::moves::{entry_move, row_move, table_of, Move};
 use crate::records::*;
 use crate::rng::Rng;
+use crate::script::{as_numbers, pair_get};
 use bavolinesk::raw::{Cursor, EntryCursor};
 
 fn small(refusal: u32, node: usize, looks: usize) -> (u8, u16, u16) {
@@ -39,11 +40,8 @@ pub fn case(writer: &mut Writer, rng: &mut Rng) {
             }
             5 | 6 => {
                 let (refusal, answer, looks) = writer.models[t].get(&key, number);
-                let (answer, node) = match answer {
-                    Answer::Absent => (0, 0),
-                    Answer::Found(node) => (1, node),
-                    Answer::Deleted => (2, 0),
-                };
+                let (answer, node) = as_numbers(answer);
+                let answer = answer as u8;
                 let value = writer.models[t]
                     .entry(node)
                     .map_or(Vec::new(), |entry| entry.value.clone());
@@ -74,6 +72,28 @@ pub fn case(writer: &mut Writer, rng: &mut Rng) {
                     node,
                     looks,
                     key,
+                    ..record
+                });
+            }
+            8 if rng.one_in(2) => {
+                let told = pair_get(&writer.models, &key, number);
+                let entry = told
+                    .table
+                    .checked_sub(1)
+                    .and_then(|t| writer.models[t as usize].entry(told.node));
+                let value = entry.map_or(Vec::new(), |entry| entry.value.clone());
+                let (refusal, node, looks) = small(told.refusal, told.node, told.looks);
+                let (answer, place) = (told.answer as u8, told.table as u8);
+                let record = Record::new(1, PAIR_GET);
+                writer.records.push(Record {
+                    refusal,
+                    answer,
+                    place,
+                    number,
+                    node,
+                    looks,
+                    key,
+                    value,
                     ..record
                 });
             }

@@ -69,7 +69,12 @@ impl State {
                 } else {
                     &[]
                 };
-                got.refusal == refusal && (got.answer == 1) == (r.answer == 1) && r.value == value
+                let answer = match r.place {
+                    255 => (got.answer == 1) == (r.answer == 1),
+                    _ => (got.answer, got.table) == (u32::from(r.answer), u32::from(r.place)),
+                };
+                let same = got.refusal == refusal && answer && r.value == value;
+                same && told(r.node, got.node) && told(r.looks, got.looks)
             }
             CHECK => raw::check(self.image(t)) == (r.answer == 1),
             FIRST | SEEK | NEXT | PREV => self.moved(r, refusal),

@@ -246,7 +246,8 @@ impl State {
     }
 }
 
-fn as_numbers(answer: Answer) -> (u32, usize) {
+/// An answer as the library's numbers.
+pub fn as_numbers(answer: Answer) -> (u32, usize) {
     match answer {
         Answer::Absent => (0, 0),
         Answer::Found(node) => (1, node),
@@ -254,7 +255,8 @@ fn as_numbers(answer: Answer) -> (u32, usize) {
     }
 }
 
-fn pair_get(models: &[Model; 2], key: &[u8], snapshot: u64) -> raw::PairLookup {
+/// What the model says to a lookup in a pair.
+pub fn pair_get(models: &[Model; 2], key: &[u8], snapshot: u64) -> raw::PairLookup {
     let mut told = raw::PairLookup {
         refusal: u32::from(models.iter().any(|model| model.bad_header)),
         answer: 0,

@@ -3,7 +3,7 @@
 use oracle::DB::{build_memtable_key, LdbIterator, MemtableKeyCmp, SkipMap, ValueType};
 use oracle::{cmp, Cursors, Memory};
 use runs::bench::{row_sum, timed, Contestant, Input, Item, Outcome, Task};
-use runs::contestants::{again, all, each, looks, most};
+use runs::contestants::{again, all, each, looks, most, value_sum};
 use std::rc::Rc;
 
 struct Crate {
@@ -32,10 +32,6 @@ fn fill(input: &Input) -> (Memory, Memory) {
         table.add(&item.key, item.number, item.kind, &item.value);
     }
     (first, second)
-}
-
-fn value_sum(value: Option<&[u8]>) -> u64 {
-    value.map_or(1, |value| row_sum(&[], value))
 }
 
 impl Contestant for Crate {
