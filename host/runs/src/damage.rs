@@ -1,11 +1,12 @@
 //! Calls on images that may be damaged: each returns, keeps to its bounds, and changes nothing where it refuses. On images that are
 //! still sound each answer is the model's.
 
-use crate::checker::{header, sound};
+use crate::checker::{header, sound, word};
 use crate::gen::Shape;
 use crate::model::{Answer, Entry, Model};
 use crate::rng::Rng;
 use bavolinesk::raw::{self, Cursor, EntryCursor};
+use std::collections::HashSet;
 use std::time::{Duration, Instant};
 
 #[derive(Debug, Default)]
@@ -100,6 +101,19 @@ pub(crate) fn asked(key: &[u8], number: u64, before: u32) -> u32 {
     }
 }
 
+// Where the links of the head stand, and those of every node that begins behind the header and has a legal height.
+fn link_places(image: &[u8], count: usize, free: usize) -> HashSet<usize> {
+    let mut places: HashSet<usize> = (0..12).map(|level| 16 + 4 * level).collect();
+    for number in 1..=count {
+        let Some(at) = word(image, image.len() - 4 * number) else {
+            continue;
+        };
+        let height = word(image, at).filter(|height| (1..=12).contains(height) && at >= 64 && at + 8 <= free);
+        places.extend((0..height.unwrap_or(0)).map(|level| at + 8 + 4 * level));
+    }
+    places
+}
+
 /// Draws calls and makes them.
 pub struct Caller<'a> {
     pub rng: &'a mut Rng,
@@ -125,6 +139,10 @@ impl Caller<'_> {
     // A key out of the image, most often, so that searches go far.
     pub(crate) fn key(&mut self, images: &Images, t: usize) -> Box<[u8]> {
         let count = images.headers[t].map_or(0, |(count, _)| count);
+        // Above every key, so that a search passes all that it meets.
+        if self.rng.one_in(6) {
+            return vec![0xff; self.rng.between(1, 220)].into();
+        }
         if self.rng.one_in(3) || count == 0 {
             return self.shape.key(self.rng).into_boxed_slice();
         }
@@ -282,9 +300,16 @@ impl Caller<'_> {
         assert_eq!(node, count + 1);
         assert_eq!(header(new), Some((count + 1, free + size)));
         let slot = old.len() - 4 * node;
+        let places = link_places(old, count, free);
         let (mut links, mut covered) = (0, 0);
         for at in (16..old.len()).filter(|&at| old[at] != new[at]) {
             let own = (free..free + size).contains(&at) || (slot..slot + 4).contains(&at);
+            if !own {
+                assert!(
+                    (at - 3..=at).any(|place| places.contains(&place)),
+                    "byte {at} is in no link"
+                );
+            }
             if !own && at >= covered {
                 links += 1;
                 covered = at + 4;

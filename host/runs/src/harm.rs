@@ -81,6 +81,39 @@ fn loops(image: &mut [u8], count: usize, rng: &mut Rng) {
     }
 }
 
+// A detour: a node's link at a level leads to another node, and that one's at the same level to the end. A search may then meet
+// nodes again at a lower level and still come to an end, after more looks than are allowed.
+fn detour(image: &mut [u8], count: usize, rng: &mut Rng) {
+    let tall = |image: &[u8], level: usize, rng: &mut Rng| {
+        let starts = (0..8).map(|_| start(image, count, rng));
+        starts
+            .filter(|&at| word(image, at).is_some_and(|height| height > level))
+            .max()
+    };
+    let level = rng.below(3);
+    let number = rng.between(1, count.max(1));
+    let target = image.len().checked_sub(4 * number).and_then(|at| word(image, at));
+    if let (Some(from), Some(to)) = (tall(image, level, rng), target) {
+        put(image, to + 8 + 4 * level, 0);
+        put(image, from + 8 + 4 * level, number);
+    }
+}
+
+// A link to a node that is not tall enough for the link's level; the bytes behind its own links read as a link that is in range.
+fn too_low(image: &mut [u8], count: usize, rng: &mut Rng) {
+    let number = rng.between(1, count.max(1));
+    let Some(at) = image.len().checked_sub(4 * number).and_then(|at| word(image, at)) else {
+        return;
+    };
+    let level = word(image, at).unwrap_or(1).min(11);
+    put(image, at + 8 + 4 * level, rng.between(8, 12));
+    let others = (0..8).map(|_| start(image, count, rng));
+    let from = others
+        .filter(|&at| word(image, at).is_some_and(|height| height > level))
+        .max();
+    put(image, from.map_or(16, |at| at + 8) + 4 * level, number);
+}
+
 fn header_fields(image: &mut [u8], count: usize, free: usize, rng: &mut Rng) {
     match rng.below(10) {
         0 => put(image, 4, count + 1),
@@ -114,10 +147,12 @@ fn relength(image: &mut Box<[u8]>, rng: &mut Rng) {
 /// Damages an image in one of many ways.
 pub fn harm(image: &mut Box<[u8]>, rng: &mut Rng) {
     let (count, free) = header(image).unwrap_or((3, 200));
-    match rng.below(16) {
+    match rng.below(17) {
         0 | 1 => flips(image, free, rng),
         2..=5 => links(image, count, free, rng),
-        6 => loops(image, count, rng),
+        6 | 16 if rng.one_in(3) => loops(image, count, rng),
+        6 | 16 if rng.one_in(2) => detour(image, count, rng),
+        6 | 16 => too_low(image, count, rng),
         7 | 8 => {
             let number = rng.between(1, count.max(1));
             let to = stray(image, count, free, rng);
