@@ -15,7 +15,10 @@ use std::rc::Rc;
 struct Counts {
     entries: u64,
     lookups: u64,
+    found: u64,
+    deleted: u64,
     forward_moves: u64,
+    on_a_row: u64,
     entry_moves: u64,
 }
 
@@ -66,11 +69,14 @@ fn kind_of(kind: u8) -> oracle::DB::ValueType {
     }
 }
 
-fn lookup(side: &Side, key: &[u8], snapshot: u64) {
+fn lookup(side: &Side, key: &[u8], snapshot: u64, counts: &mut Counts) {
     let found = raw::get(&side.image, key, snapshot);
     assert_eq!(found.refusal, 0);
     let value = (found.answer == 1).then(|| raw::value(&side.image, found.node).of(&side.image).to_vec());
     let (theirs, deleted) = side.table.get(key, snapshot);
+    counts.lookups += 1;
+    counts.found += u64::from(theirs.is_some());
+    counts.deleted += u64::from(deleted);
     assert_eq!(
         (value, found.answer == 2),
         (theirs, deleted),
@@ -117,6 +123,7 @@ fn forward_string(rng: &mut Rng, shape: &Shape, sides: &[Side; 2], cursors: &Cur
             "snapshot {snapshot}, after {moves:?}; the crate is on the right"
         );
         counts.forward_moves += 1;
+        counts.on_a_row += u64::from(at.table != 0);
     }
 }
 
@@ -175,8 +182,7 @@ fn one(rng: &mut Rng, cursors: &Cursors, counts: &mut Counts) {
         }
     }
     for _ in 0..80 {
-        lookup(&sides[rng.below(2)], &shape.key(rng), shape.number(rng));
-        counts.lookups += 1;
+        lookup(&sides[rng.below(2)], &shape.key(rng), shape.number(rng), counts);
     }
     for _ in 0..3 {
         forward_string(rng, &shape, &sides, cursors, counts);
