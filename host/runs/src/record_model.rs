@@ -145,7 +145,7 @@ pub fn case(writer: &mut Writer, rng: &mut Rng) {
             .clone()
             .chunks(8)
             .enumerate()
-            .filter(|_| rng.one_in(4))
+            .filter(|_| rng.one_in(8))
         {
             let (table, number, value) = (t as u8 + 1, 8 * index as u64, value.to_vec());
             writer.records.push(Record {

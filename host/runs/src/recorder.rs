@@ -9,7 +9,7 @@ use std::process::exit;
 
 #[cfg(leveldb)]
 fn leveldb_cases(writer: &mut Writer, rng: &mut Rng) {
-    for case in 0..40 {
+    for case in 0..60 {
         crate::record_leveldb::case(writer, rng, case);
     }
 }
