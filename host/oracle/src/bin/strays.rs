@@ -1,6 +1,6 @@
 // The crate on the inputs where it is known to stray from document 01's rule: a line each with what it answers, and what the
 // library answers. Ends with status 1 if the crate answers otherwise than docs/DIFFERENCES.md says.
-use bavolinesk::{Snapshot, Table};
+use bavolinesk::{Kind, Snapshot, Table};
 use oracle::DB::{DefaultCmp, LdbIterator, SkipMap};
 use oracle::{merge, row, Cursors, Memory};
 use std::process::exit;
@@ -175,20 +175,73 @@ fn merging(a: Fill, b: Fill) -> (String, String) {
     (entry_text(&old), entry_text(&new))
 }
 
+fn fill_text(fill: Fill) -> String {
+    let entries = fill.iter().map(|(key, number, value)| match value {
+        Some(value) => format!("{key}@{number}={value}"),
+        None => format!("{key}@{number}-"),
+    });
+    format!("{{{}}}", entries.collect::<Vec<_>>().join(", "))
+}
+
+fn input(case: &Case) -> String {
+    let second = match case.second.is_empty() {
+        true => String::new(),
+        false => format!(", second {}", fill_text(case.second)),
+    };
+    let (first, s, moves) = (fill_text(case.first), case.snapshot, case.moves.join(", "));
+    format!("first {first}{second}, s={s}: {moves}")
+}
+
+// The crate adds the second of two entries with equal key and number, or panics.
+fn adds_again(kind: u8) -> &'static str {
+    let quiet = std::panic::take_hook();
+    std::panic::set_hook(Box::new(|_| ()));
+    let added = std::panic::catch_unwind(|| {
+        let mut table = Memory::new();
+        table.add(b"a", 1, 1, b"x");
+        table.add(b"a", 1, kind, b"x");
+    });
+    std::panic::set_hook(quiet);
+    match added {
+        Ok(()) => "added",
+        Err(_) => "panics",
+    }
+}
+
+fn library_adds_again(kind: Kind) -> String {
+    let mut memory = [0u8; 256];
+    let mut table = Table::fresh(&mut memory).expect("a fresh table");
+    table.put(b"a", 1, b"x").expect("room for an entry");
+    let added = table.add(b"a", 1, kind, b"x", 1);
+    added.map_or_else(|refusal| format!("refusal {}", refusal.code()), |_| "added".into())
+}
+
+fn contains_prefix() -> (&'static str, &'static str) {
+    let yes = |held: bool| if held { "yes" } else { "no" };
+    let mut list = SkipMap::new(Rc::new(Box::new(DefaultCmp)));
+    list.insert(b"ab".to_vec(), Vec::new());
+    let mut memory = [0u8; 128];
+    let mut table = Table::fresh(&mut memory).expect("a fresh table");
+    table.put(b"ab", 1, b"").expect("room for an entry");
+    (
+        yes(list.contains(b"a")),
+        yes(table.contains(b"a", 1, Kind::Value).expect("a sound table")),
+    )
+}
+
 fn main() {
     let mut wrong = false;
-    let mut line = |name: &str, rule: &str, strays: &str, theirs: &str, ours: &str| {
+    let mut line = |name: &str, input: &str, rule: &str, strays: &str, theirs: &str, ours: &str| {
         let ok = theirs == strays && ours == rule;
         wrong |= !ok;
-        println!(
-            "| {name} | {rule} | {theirs} | {ours} | {} |",
-            if ok { "as known" } else { "OTHERWISE" }
-        );
+        let known = if ok { "as known" } else { "OTHERWISE" };
+        println!("| {name} | {input} | {rule} | {theirs} | {ours} | {known} |");
     };
-    println!("| Stray | The rule | The crate | The library | |\n|---|---|---|---|---|");
+    println!("| Stray | Input | The rule | The crate | The library | |\n|---|---|---|---|---|---|");
     for case in CASES {
         line(
             case.name,
+            &input(case),
             case.rule,
             case.strays,
             &crate_says(case),
@@ -196,35 +249,48 @@ fn main() {
         );
     }
     let (a, b): (Fill, Fill) = (&[("a", 1, Some("x"))], &[("b", 2, Some("y"))]);
-    let moves = &["first", "prev", "first", "prev"];
     let twice = Case {
-        name: "seek and reset keep the direction: merged {a@1} and {b@2}, first, prev, first, prev",
+        name: "seek and reset keep the direction",
         first: a,
         second: b,
         snapshot: 2,
-        moves,
+        moves: &["first", "prev", "first", "prev"],
         rule: "a=x, nowhere, a=x, nowhere",
-        strays: "b@2",
+        strays: "ends on b@2",
     };
     let (old, new) = merging(a, b);
-    line(twice.name, twice.rule, twice.strays, &old, &library_says(&twice));
-    println!(
-        "A fresh merging iterator after first, prev: {new}. Children the other way round: {}.",
-        merging(b, a).0
-    );
-    let mut list = SkipMap::new(Rc::new(Box::new(DefaultCmp)));
-    list.insert(b"ab".to_vec(), Vec::new());
-    let contains = |key: &[u8]| if list.contains(key) { "yes" } else { "no" };
-    let mut memory = [0u8; 128];
-    let mut table = Table::fresh(&mut memory).expect("a fresh table");
-    table.put(b"ab", 1, b"").expect("room for an entry");
-    let held = table.contains(b"a", 1, bavolinesk::Kind::Value).expect("a sound table");
+    let theirs = format!("ends on {old}");
     line(
-        "contains by prefix: {ab}, a",
-        "no",
-        "yes",
-        contains(b"a"),
-        if held { "yes" } else { "no" },
+        twice.name,
+        &input(&twice),
+        twice.rule,
+        twice.strays,
+        &theirs,
+        &library_says(&twice),
+    );
+    let (theirs, ours) = contains_prefix();
+    line("contains by prefix", "{ab}: contains a", "no", "yes", theirs, ours);
+    let again = "a key and number twice";
+    line(
+        again,
+        "a@1=x, a@1=x",
+        "refusal 8",
+        "panics",
+        adds_again(1),
+        &library_adds_again(Kind::Value),
+    );
+    line(
+        again,
+        "a@1=x, a@1-",
+        "refusal 8",
+        "panics",
+        adds_again(0),
+        &library_adds_again(Kind::Deletion),
+    );
+    println!("\nThe direction is seen on the crate's MergingIter alone, whose rows are entries. A fresh one after first, prev: {new}.");
+    println!(
+        "With its children the other way round, first, prev, first, prev ends on {}.",
+        merging(b, a).0
     );
     exit(i32::from(wrong));
 }
