@@ -1,6 +1,14 @@
-// Two tables and the visible cursor over them: how they are filled, and the line of a move.
+// Scenes over two tables, written as lines of text: what is added to them, and the moves of the visible cursor over them.
+// The fields of a line are separated by a blank each; numbers, snapshots and heights are one hexadecimal digit.
+//   0                                        both tables fresh, the cursor nowhere
+//   .                                        the cursor nowhere
+//   1 NUMBER KEY VALUE HEIGHT                an addition to the first table, or by 2 to the second; the value - is a deletion
+//   CALL SNAPSHOT KEY VALUE SOUGHT GOES NAME a move, the row that it is to end on (- for nowhere), what a seek seeks, > if the cursor
+//                                            goes along, and the name of the case
+use crate::entry::only;
 use crate::lines::SAID_WIDTH;
 use crate::lines::call;
+use crate::lines::name;
 use crate::lines::same_bytes;
 use crate::show;
 use cursor::db_iter::Moved;
@@ -13,15 +21,111 @@ use cursor::row_views::row_key;
 use cursor::row_views::row_value;
 use table::key_types::Tag;
 use table::memtable::add;
+use table::memtable::fresh;
+ghost use Prim.Native.Nat.{_≤_};
+ghost use lib.ListN.{length};
 
-// Adds a value.
-pub fn put(image: &mut [u8], key: &[u8], number: u64, value: &[u8], height: usize) {
-    add(image, key, number, Tag::VALUE, value, height);
+// Where a byte stands first from some place on, or the end.
+fn find(s: &[u8], from: usize, mark: u8) -> usize
+    requires { ⌜ from ≤ length (now s) ⌝ }
+    ensures { λ r. ⌜ (from ≤ r) × (r ≤ length (now (s .entry))) ⌝ }
+{
+    let mut i = from;
+    while i < s.len() {
+        if s[i] == mark {
+            return i;
+        }
+        i += 1;
+    }
+    i
 }
 
-// Adds a deletion.
-pub fn delete(image: &mut [u8], key: &[u8], number: u64, height: usize) {
-    add(image, key, number, Tag::DELETION, b"", height);
+// Where the field behind so many blanks begins, or the end.
+fn skip(s: &[u8], blanks: usize) -> usize
+    ensures { λ r. ⌜ r ≤ length (now (s .entry)) ⌝ }
+{
+    let mut left = blanks;
+    let mut i = 0;
+    while i < s.len() {
+        if left < 1 {
+            return i;
+        }
+        if s[i] == b' ' {
+            left -= 1;
+        }
+        i += 1;
+    }
+    i
+}
+
+// A line from its k-th field on, counted from 0.
+fn fields(s: &[u8], k: usize) -> &[u8] {
+    let from = skip(s, k);
+    &s[from..]
+}
+
+// The k-th field of a line.
+fn field(s: &[u8], k: usize) -> &[u8] {
+    let from = skip(s, k);
+    let to = find(s, from, b' ');
+    &s[from..to]
+}
+
+// What a field says; - is empty.
+fn text(s: &[u8]) -> &[u8] {
+    if only(s) == b'-' {
+        return &s[..0];
+    }
+    s
+}
+
+// The number that a field says.
+fn digit(s: &[u8]) -> usize {
+    let b = only(s);
+    let low = (b % 16) as usize;
+    if b < b'a' { low } else { low + 9 }
+}
+
+// What a line is about: its first byte.
+fn about(s: &[u8]) -> u8 {
+    if s.len() < 1 {
+        return 0;
+    }
+    s[0]
+}
+
+// The type of an addition, by its value.
+fn kind(value: &[u8]) -> u8 {
+    if only(value) == b'-' {
+        return Tag::DELETION;
+    }
+    Tag::VALUE
+}
+
+// Makes the addition of a line.
+fn put(s: &[u8], image: &mut [u8]) {
+    let number = digit(field(s, 1)) as u64;
+    let value = field(s, 3);
+    let height = digit(field(s, 4));
+    add(image, field(s, 2), number, kind(value), text(value), height);
+}
+
+// What a line does to the tables.
+fn change(s: &[u8], f: &mut [u8], g: &mut [u8]) {
+    let what = about(s);
+    if what == b'0' {
+        fresh(f);
+        fresh(g);
+        return;
+    }
+    if what == b'1' {
+        put(s, f);
+        return;
+    }
+    if what == b'2' {
+        put(s, g);
+        return;
+    }
 }
 
 // Where a move led; a refused one hands back the cursor that it was handed, and the line then shows the row before the move.
@@ -29,6 +133,17 @@ fn led(r: Moved) -> Cursor {
     match r {
         Moved::To(c) => c,
         Moved::Refused(_, c) => c,
+    }
+}
+
+// Makes the move of a line.
+fn moved<'a>(s: &[u8], f: &'a [u8], g: &'a [u8], at: Cursor) -> Cursor {
+    let snapshot = digit(field(s, 1)) as u64;
+    match about(s) {
+        b'f' => led(to_first(f, g, snapshot, at)),
+        b's' => led(seek(f, g, snapshot, at, field(s, 4))),
+        b'n' => led(next(f, g, snapshot, at)),
+        _ => led(prev(f, g, snapshot, at)),
     }
 }
 
@@ -50,74 +165,48 @@ fn same_row(key: &[u8], value: &[u8], k: &[u8], v: &[u8]) -> bool {
     false
 }
 
-// Ends a line with a move: the row that it is to end on, or an empty key for nowhere, and the row where it ended.
-fn row_case<'a>(
-    name: &[u8],
-    first: &'a [u8],
-    second: &'a [u8],
-    at: Cursor,
-    key: &[u8],
-    value: &[u8],
-) {
-    let k = row_key(first, second, at);
-    let v = row_value(first, second, at);
-    call(name);
+// Writes a move: the row that it is to end on, or an empty key for nowhere, and the row where it ended.
+fn row_case<'a>(s: &[u8], f: &'a [u8], g: &'a [u8], at: Cursor) {
+    let key = text(field(s, 2));
+    let value = text(field(s, 3));
+    let k = row_key(f, g, at);
+    let v = row_value(f, g, at);
+    name(fields(s, 6));
+    call(field(s, 0));
     show::blanks(row_words(key, value, SAID_WIDTH));
     show::blanks(1);
     show::blanks(row_words(k, v, SAID_WIDTH));
     show::verdict(same_row(key, value, k, v));
 }
 
-// Ends a line with each of the moves, and answers where it led.
-pub fn show_first<'a>(
-    first: &'a [u8],
-    second: &'a [u8],
-    snapshot: u64,
-    at: Cursor,
-    key: &[u8],
-    value: &[u8],
-) -> Cursor {
-    let c = led(to_first(first, second, snapshot, at));
-    row_case(b"first", first, second, c, key, value);
-    c
+// Makes the move of a line, and writes it; answers where the cursor is then.
+fn go<'a>(s: &[u8], f: &'a [u8], g: &'a [u8], at: Cursor) -> Cursor {
+    let c = moved(s, f, g, at);
+    row_case(s, f, g, c);
+    if only(field(s, 5)) == b'>' {
+        return c;
+    }
+    at
 }
 
-pub fn show_seek<'a>(
-    first: &'a [u8],
-    second: &'a [u8],
-    snapshot: u64,
-    at: Cursor,
-    to: &[u8],
-    key: &[u8],
-    value: &[u8],
-) -> Cursor {
-    let c = led(seek(first, second, snapshot, at, to));
-    row_case(b"seek", first, second, c, key, value);
-    c
+// Where the cursor is after a line.
+fn turn<'a>(s: &[u8], f: &'a [u8], g: &'a [u8], at: Cursor) -> Cursor {
+    match about(s) {
+        b'f' | b's' | b'n' | b'p' => go(s, f, g, at),
+        b'0' | b'.' => Cursor::Nowhere,
+        _ => at,
+    }
 }
 
-pub fn show_next<'a>(
-    first: &'a [u8],
-    second: &'a [u8],
-    snapshot: u64,
-    at: Cursor,
-    key: &[u8],
-    value: &[u8],
-) -> Cursor {
-    let c = led(next(first, second, snapshot, at));
-    row_case(b"next", first, second, c, key, value);
-    c
-}
-
-pub fn show_prev<'a>(
-    first: &'a [u8],
-    second: &'a [u8],
-    snapshot: u64,
-    at: Cursor,
-    key: &[u8],
-    value: &[u8],
-) -> Cursor {
-    let c = led(prev(first, second, snapshot, at));
-    row_case(b"previous", first, second, c, key, value);
-    c
+// Goes through scenes.
+pub fn scenes(lines: &[u8], f: &mut [u8], g: &mut [u8]) {
+    let mut c = Cursor::Nowhere;
+    let mut at = 0;
+    while at < lines.len() {
+        let end = find(lines, at, b'\n');
+        let s = &lines[at..end];
+        change(s, f, g);
+        c = turn(s, f, g, c);
+        at = end + 1;
+    }
 }
