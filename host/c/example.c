@@ -120,6 +120,12 @@ static void read_rows(uint64_t snapshot, const row *rows, size_t count)
     }
 }
 
+/* What rusty-leveldb 4.0.2 showed of the same entries when it was run on them (docs/DIFFERENCES.md). */
+static void old_code(const char *shown)
+{
+    printf("          the old code, %s\n", shown);
+}
+
 /* One function, by its name. */
 static void look_up(const char *function, uint64_t snapshot, uint32_t answer)
 {
@@ -179,7 +185,9 @@ int main(void)
     read_rows(1, nic, 1);
     read_rows(2, gpu_nic, 2);
     read_rows(3, nic, 1);
+    old_code("downward at 3: gpu0 x16, a card that is gone");
     read_rows(4, nic_ssd, 2);
+    old_code("downward at 4: nothing below ssd0, though nic0 is there");
     read_rows(5, all, 3);
     look_up("gpu0", 1, BAVO_ABSENT);
     look_up("gpu0", 4, BAVO_DELETED);

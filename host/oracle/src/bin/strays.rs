@@ -8,6 +8,10 @@ use std::rc::Rc;
 
 type Fill = &'static [(&'static str, u64, Option<&'static str>)];
 
+// What the controller writes in the riser's story (host/c/example.c): the newer table, and the older one.
+const NEWER: Fill = &[("ssd0", 4, Some("x4")), ("gpu0", 5, Some("x8"))];
+const OLDER: Fill = &[("nic0", 1, Some("x8")), ("gpu0", 2, Some("x16")), ("gpu0", 3, None)];
+
 const T: Fill = &[
     ("a", 1, Some("x")),
     ("a", 3, None),
@@ -81,6 +85,24 @@ const CASES: &[Case] = &[
         moves: &["seek bb", "prev", "next"],
         rule: "bba=v, aa=v, bba=v",
         strays: "bba=v, aa=v, aa=v",
+    },
+    Case {
+        name: "the riser's story, the gpu lost",
+        first: NEWER,
+        second: OLDER,
+        snapshot: 3,
+        moves: &["seek nic0", "prev"],
+        rule: "nic0=x8, nowhere",
+        strays: "nic0=x8, gpu0=x16",
+    },
+    Case {
+        name: "the riser's story, an ssd beside it",
+        first: NEWER,
+        second: OLDER,
+        snapshot: 4,
+        moves: &["seek ssd0", "prev", "prev"],
+        rule: "ssd0=x4, nic0=x8, nowhere",
+        strays: "ssd0=x4, nowhere (true), nowhere",
     },
 ];
 
