@@ -13,6 +13,7 @@ mod damage_cursors;
 pub mod draw;
 pub mod gen;
 pub mod harm;
+pub mod independence;
 #[cfg(leveldb)]
 pub mod leveldb;
 pub mod model;

@@ -1,14 +1,15 @@
 // Calls on damaged images.
 //   damage [--seed N|clock] [--calls N] [--exact] [--no-full-size]
 // --exact hands every call copies of its own, of exact length: for valgrind.
-use bavolinesk::raw;
+use bavolinesk::{height_for, raw};
 use runs::args::Args;
+use runs::checker::header;
 use runs::damage::{Caller, Counts, Images};
 use runs::gen::Shape;
 use runs::harm::harm;
 use runs::rng::Rng;
 use std::sync::atomic::{AtomicU64, Ordering};
-use std::time::Duration;
+use std::time::{Duration, Instant};
 
 static CASE: AtomicU64 = AtomicU64::new(0);
 
@@ -111,6 +112,40 @@ fn largest(seed: u64, counts: &mut Counts) -> Box<[u8]> {
     image
 }
 
+// The longest moves of sound tables: two of them full of deletions, so that a move passes every key; of height 1, so that every
+// search passes every node before it, and of heights as they are drawn.
+fn deserted(drawn: bool) {
+    let mut images = [vec![0u8; 65_536], vec![0u8; 65_536]];
+    let mut held = 0;
+    for (t, image) in images.iter_mut().enumerate() {
+        assert_eq!(raw::fresh(image), 0);
+        for number in 0..4_096u16 {
+            let key = (2 * number + t as u16).to_be_bytes();
+            let height = if drawn { height_for(&key, 1) } else { 1 };
+            held += usize::from(raw::add(image, &key, 1, 0, b"", height).refusal == 0);
+        }
+    }
+    let [one, two] = &images;
+    assert!(raw::check(one) && raw::check(two));
+    let nowhere = raw::Cursor::NOWHERE;
+    let last = raw::Cursor {
+        table: 1,
+        node: header(one).map_or(1, |(count, _)| count),
+    };
+    for (name, moved) in [("first", 0), ("previous", 1)] {
+        let before = Instant::now();
+        let moved = match moved {
+            0 => raw::first(one, two, 1, nowhere),
+            _ => raw::prev(one, two, 1, last),
+        };
+        let took = before.elapsed();
+        assert_eq!(moved.refusal, 0);
+        let heights = if drawn { "drawn heights" } else { "height 1" };
+        let millis = took.as_secs_f64() * 1e3;
+        println!("{name} past {held} deletions of {heights}: {millis:.1} ms");
+    }
+}
+
 fn full_size(seed: u64, exact: bool, counts: &mut Counts) {
     let largest = largest(seed, counts);
     for case in 0..100 {
@@ -147,5 +182,7 @@ fn main() {
         let mut counts = Counts::default();
         full_size(seed, exact, &mut counts);
         println!("full size: {counts:?}");
+        deserted(false);
+        deserted(true);
     }
 }

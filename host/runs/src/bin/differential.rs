@@ -1,5 +1,6 @@
-// The library against a plain model of document 01, and against LevelDB where it is installed.
-//   differential [--seed N|clock] [--cases N] [--databases N]
+// The library against a plain model of document 01, pairs of tables that must show the same rows against each other, and the library
+// against LevelDB where it is installed.
+//   differential [--seed N|clock] [--cases N] [--pairs N] [--databases N]
 // The run against the crate is oracle/run differential.
 use runs::args::Args;
 use runs::draw::draw;
@@ -45,5 +46,9 @@ fn main() {
     let seed = args.seed();
     println!("seed {seed}");
     against_model(seed, args.number("--cases", 40_000));
+    let pairs = args.number("--pairs", 10_000);
+    let counts = runs::independence::run(seed, pairs);
+    println!("independence: {pairs} couples of pairs show the same rows");
+    println!("    {counts:?}");
     against_leveldb(seed, args.number("--databases", 150));
 }
