@@ -144,7 +144,7 @@ uint32_t bavo_value_refusal(const uint8_t *image, size_t image_len, size_t node)
 
 /* ---- the entry cursor: over all entries of one table in their order, deletions included */
 
-/* Nowhere, or on a node: two numbers that the caller keeps. {0, 0} is where to begin. */
+/* Nowhere, or on a node: two numbers that the caller keeps. {0, 0} is where to begin; nowhere, `node` does not matter. */
 typedef struct {
     uint32_t on;
     size_t node;
@@ -203,7 +203,8 @@ typedef struct {
     size_t looks;
 } bavo_pair_lookup;
 
-/* Nowhere, or on a node of the first or the second table: two numbers that the caller keeps. {0, 0} is where to begin. */
+/* Nowhere, or on a node of the first or the second table: two numbers that the caller keeps. {0, 0} is where to
+ * begin; nowhere, `node` does not matter. */
 typedef struct {
     uint32_t table;
     size_t node;

@@ -45,6 +45,7 @@ fn placeless(refusal: u32, answer: u32, looks: usize) -> BavoPairLookup
     }
 }
 
+// The answer of a lookup in a pair as a struct.
 fn plain_pair_lookup(a: PairLookup) -> BavoPairLookup
     ensures { λ r. ⌜ r ≡ plainPairLookup a ⌝ }
 {
@@ -65,6 +66,7 @@ fn plain_pair_lookup(a: PairLookup) -> BavoPairLookup
     }
 }
 
+// The newest entry of a key up to a snapshot in a pair. Refusals 1 (first table, then second), 3, 4, 9.
 #[no_mangle]
 pub extern "C" fn bavo_pair_get(
     first: &[u8],
@@ -117,6 +119,7 @@ pub struct BavoMoved {
     pub node: usize,
 }
 
+// A move's answer as a struct.
 fn plain_moved(at: BavoCursor, a: Moved) -> BavoMoved
     ensures { λ r. ⌜ r ≡ plainMoved at a ⌝ }
 {
@@ -144,6 +147,7 @@ fn plain_moved(at: BavoCursor, a: Moved) -> BavoMoved
     }
 }
 
+// To the least key with a row. Refusals 1, 10, 3, 9.
 #[no_mangle]
 pub extern "C" fn bavo_first<'a>(
     first: &'a [u8],
@@ -159,6 +163,7 @@ pub extern "C" fn bavo_first<'a>(
     )
 }
 
+// To the least key with a row, at or above the given one. Refusals 1, 10, 3, 4, 9.
 #[no_mangle]
 pub extern "C" fn bavo_seek<'a>(
     first: &'a [u8],
@@ -175,6 +180,7 @@ pub extern "C" fn bavo_seek<'a>(
     )
 }
 
+// To the least key with a row above the cursor's. Refusals 1, 10, 3, 9.
 #[no_mangle]
 pub extern "C" fn bavo_next<'a>(
     first: &'a [u8],
@@ -190,6 +196,7 @@ pub extern "C" fn bavo_next<'a>(
     )
 }
 
+// To the greatest key with a row below the cursor's. Refusals 1, 10, 3, 9.
 #[no_mangle]
 pub extern "C" fn bavo_prev<'a>(
     first: &'a [u8],

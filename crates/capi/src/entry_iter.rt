@@ -49,6 +49,7 @@ pub struct BavoEntryMoved {
     pub node: usize,
 }
 
+// A move's answer as a struct.
 fn plain_entry_moved(at: BavoEntryCursor, a: EntryMoved) -> BavoEntryMoved
     ensures { λ r. ⌜ r ≡ plainEntryMoved at a ⌝ }
 {
@@ -73,6 +74,7 @@ fn plain_entry_moved(at: BavoEntryCursor, a: EntryMoved) -> BavoEntryMoved
     }
 }
 
+// To the first entry. Refusals 1, 10, 9.
 #[no_mangle]
 pub extern "C" fn bavo_entry_first(image: &[u8], at: BavoEntryCursor) -> BavoEntryMoved
     ensures { λ r. ⌜ Plainly (plainEntryMoved at) (λ a. Moves (now (image .entry)) first (entryCursorOf at) a) r ⌝ }
@@ -80,6 +82,7 @@ pub extern "C" fn bavo_entry_first(image: &[u8], at: BavoEntryCursor) -> BavoEnt
     plain_entry_moved(at, entry_first(image, entry_cursor_of(at)))
 }
 
+// To the first entry at or after a key and a number. Refusals 1, 10, 3, 4, 9.
 #[no_mangle]
 pub extern "C" fn bavo_entry_seek(
     image: &[u8],
@@ -92,6 +95,7 @@ pub extern "C" fn bavo_entry_seek(
     plain_entry_moved(at, entry_seek(image, entry_cursor_of(at), key, number))
 }
 
+// To the next entry. Refusals 1, 10, 9.
 #[no_mangle]
 pub extern "C" fn bavo_entry_next(image: &[u8], at: BavoEntryCursor) -> BavoEntryMoved
     ensures { λ r. ⌜ Plainly (plainEntryMoved at) (λ a. Moves (now (image .entry)) next (entryCursorOf at) a) r ⌝ }
@@ -99,6 +103,7 @@ pub extern "C" fn bavo_entry_next(image: &[u8], at: BavoEntryCursor) -> BavoEntr
     plain_entry_moved(at, entry_next(image, entry_cursor_of(at)))
 }
 
+// To the entry before. Refusals 1, 10, 9.
 #[no_mangle]
 pub extern "C" fn bavo_entry_prev(image: &[u8], at: BavoEntryCursor) -> BavoEntryMoved
     ensures { λ r. ⌜ Plainly (plainEntryMoved at) (λ a. Moves (now (image .entry)) previous (entryCursorOf at) a) r ⌝ }
@@ -106,6 +111,7 @@ pub extern "C" fn bavo_entry_prev(image: &[u8], at: BavoEntryCursor) -> BavoEntr
     plain_entry_moved(at, entry_prev(image, entry_cursor_of(at)))
 }
 
+// The key at a cursor. Refusals 1, 10, 9.
 #[no_mangle]
 pub extern "C" fn bavo_entry_key(image: &[u8], at: BavoEntryCursor) -> BavoView
     ensures { λ r. ⌜ Plainly plainView (λ a. Spans (now (image .entry)) (keyView (now (image .entry)) (cursorIs (entryCursorOf at))) a) r ⌝ }
@@ -113,6 +119,7 @@ pub extern "C" fn bavo_entry_key(image: &[u8], at: BavoEntryCursor) -> BavoView
     plain_view(entry_key_span(image, entry_cursor_of(at)))
 }
 
+// The value at a cursor; a deletion's is empty. Refusals 1, 10, 9.
 #[no_mangle]
 pub extern "C" fn bavo_entry_value(image: &[u8], at: BavoEntryCursor) -> BavoView
     ensures { λ r. ⌜ Plainly plainView (λ a. Spans (now (image .entry)) (valueView (now (image .entry)) (cursorIs (entryCursorOf at))) a) r ⌝ }
@@ -120,6 +127,7 @@ pub extern "C" fn bavo_entry_value(image: &[u8], at: BavoEntryCursor) -> BavoVie
     plain_view(entry_value_span(image, entry_cursor_of(at)))
 }
 
+// The number at a cursor; nowhere, and where it is refused, 0.
 #[no_mangle]
 pub extern "C" fn bavo_entry_number(image: &[u8], at: BavoEntryCursor) -> u64
     ensures { λ r. ⌜ r ≡ shownNumber (numberView (now (image .entry)) (cursorIs (entryCursorOf at))) ⌝ }
@@ -127,6 +135,7 @@ pub extern "C" fn bavo_entry_number(image: &[u8], at: BavoEntryCursor) -> u64
     entry_number(image, entry_cursor_of(at))
 }
 
+// The type at a cursor; nowhere, and where it is refused, 0.
 #[no_mangle]
 pub extern "C" fn bavo_entry_kind(image: &[u8], at: BavoEntryCursor) -> u8
     ensures { λ r. ⌜ r ≡ shownNumber (kindView (now (image .entry)) (cursorIs (entryCursorOf at))) ⌝ }
@@ -134,6 +143,7 @@ pub extern "C" fn bavo_entry_kind(image: &[u8], at: BavoEntryCursor) -> u8
     entry_kind(image, entry_cursor_of(at))
 }
 
+// The companion of the four views.
 #[no_mangle]
 pub extern "C" fn bavo_entry_refusal(image: &[u8], at: BavoEntryCursor) -> u32
     ensures { λ r. ⌜ r ≡ viewRefusal (now (image .entry)) (cursorIs (entryCursorOf at)) ⌝ }

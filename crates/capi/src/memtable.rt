@@ -31,6 +31,7 @@ fn plain_freshened(a: Freshened) -> u32
     }
 }
 
+// Makes an empty table of the image. Refusal 1.
 #[no_mangle]
 pub extern "C" fn bavo_fresh(image: &mut [u8]) -> u32
     ensures { λ r. ⌜ Plainly plainFreshened (λ a. Freshens (now (image .entry)) a (now (image .exit))) r ⌝ }
@@ -45,6 +46,7 @@ pub struct BavoAdded {
     pub node: usize,
 }
 
+// An addition's answer as a struct.
 fn plain_added(a: Added) -> BavoAdded
     ensures { λ r. ⌜ r ≡ plainAdded a ⌝ }
 {
@@ -57,6 +59,7 @@ fn plain_added(a: Added) -> BavoAdded
     }
 }
 
+// Adds an entry in a node of the given height. Refusals 1, 2, 3, 4, 5, 6, then 9 or 8, then 7.
 #[no_mangle]
 pub extern "C" fn bavo_add(
     image: &mut [u8],
@@ -71,6 +74,7 @@ pub extern "C" fn bavo_add(
     plain_added(add(image, key, number, kind, value, height))
 }
 
+// Whether the image is sound.
 #[no_mangle]
 pub extern "C" fn bavo_check(image: &[u8]) -> bool
     ensures { λ r. ⌜ Checked (now (image .entry)) r ⌝ }
@@ -86,6 +90,7 @@ pub struct BavoPresence {
     pub looks: usize,
 }
 
+// The answer to a question for presence as a struct.
 fn plain_presence(a: Presence) -> BavoPresence
     ensures { λ r. ⌜ r ≡ plainPresence a ⌝ }
 {
@@ -108,6 +113,7 @@ fn plain_presence(a: Presence) -> BavoPresence
     }
 }
 
+// Whether an entry of this key, number and type is held. Refusals 1, 2, 3, 4, 9.
 #[no_mangle]
 pub extern "C" fn bavo_contains(image: &[u8], key: &[u8], number: u64, kind: u8) -> BavoPresence
     ensures { λ r. ⌜ Plainly plainPresence (λ a. Contains (now (image .entry)) (now (key .entry)) number kind a) r ⌝ }
@@ -124,6 +130,7 @@ pub struct BavoLookup {
     pub looks: usize,
 }
 
+// A lookup's answer as a struct.
 fn plain_lookup(a: Lookup) -> BavoLookup
     ensures { λ r. ⌜ r ≡ plainLookup a ⌝ }
 {
@@ -155,6 +162,7 @@ fn plain_lookup(a: Lookup) -> BavoLookup
     }
 }
 
+// The newest entry of a key up to a snapshot. Refusals 1, 3, 4, 9.
 #[no_mangle]
 pub extern "C" fn bavo_get(image: &[u8], key: &[u8], snapshot: u64) -> BavoLookup
     ensures { λ r. ⌜ Plainly plainLookup (λ a. Gets (now (image .entry)) (now (key .entry)) snapshot a) r ⌝ }
@@ -170,6 +178,7 @@ pub struct BavoView {
     pub length: usize,
 }
 
+// Where a view stands as a struct.
 pub(crate) fn plain_view(a: SpanOn) -> BavoView
     ensures { λ r. ⌜ r ≡ plainView a ⌝ }
 {
@@ -187,6 +196,7 @@ pub(crate) fn plain_view(a: SpanOn) -> BavoView
     }
 }
 
+// The value of a found node. Refusals 1, 10, 9.
 #[no_mangle]
 pub extern "C" fn bavo_value(image: &[u8], node: usize) -> BavoView
     ensures { λ r. ⌜ Plainly plainView (λ a. Spans (now (image .entry)) (valueView (now (image .entry)) (on node)) a) r ⌝ }
@@ -194,6 +204,7 @@ pub extern "C" fn bavo_value(image: &[u8], node: usize) -> BavoView
     plain_view(value_span(image, node))
 }
 
+// Its companion.
 #[no_mangle]
 pub extern "C" fn bavo_value_refusal(image: &[u8], node: usize) -> u32
     ensures { λ r. ⌜ r ≡ viewRefusal (now (image .entry)) (on node) ⌝ }

@@ -23,6 +23,7 @@ pub struct BavoRowView {
     pub length: usize,
 }
 
+// Where a row's view stands as a struct.
 fn plain_row_view(a: RowSpan) -> BavoRowView
     ensures { λ r. ⌜ r ≡ plainRowView a ⌝ }
 {
@@ -48,6 +49,7 @@ fn plain_row_view(a: RowSpan) -> BavoRowView
     }
 }
 
+// The key at a cursor. Refusals 1 (first table, then second), 10, 9.
 #[no_mangle]
 pub extern "C" fn bavo_row_key(first: &[u8], second: &[u8], at: BavoCursor) -> BavoRowView
     ensures { λ r. ⌜ Plainly plainRowView (λ a. RowSpans keyView (now (first .entry)) (now (second .entry)) (cursorOf at) a) r ⌝ }
@@ -55,6 +57,7 @@ pub extern "C" fn bavo_row_key(first: &[u8], second: &[u8], at: BavoCursor) -> B
     plain_row_view(row_key_span(first, second, cursor_of(at)))
 }
 
+// The value at a cursor; a deletion's is empty. Refusals 1 (first table, then second), 10, 9.
 #[no_mangle]
 pub extern "C" fn bavo_row_value(first: &[u8], second: &[u8], at: BavoCursor) -> BavoRowView
     ensures { λ r. ⌜ Plainly plainRowView (λ a. RowSpans valueView (now (first .entry)) (now (second .entry)) (cursorOf at) a) r ⌝ }
@@ -62,6 +65,7 @@ pub extern "C" fn bavo_row_value(first: &[u8], second: &[u8], at: BavoCursor) ->
     plain_row_view(row_value_span(first, second, cursor_of(at)))
 }
 
+// The companion of the two.
 #[no_mangle]
 pub extern "C" fn bavo_row_refusal(first: &[u8], second: &[u8], at: BavoCursor) -> u32
     ensures { λ r. ⌜ Refuses (now (first .entry)) (now (second .entry)) (cursorOf at) r ⌝ }

@@ -12,19 +12,19 @@ use Rattle.capi.proofs.db_iter.cursor_of.Reads as cursor-of-reads
 use Rattle.capi.proofs.db_iter.plain_moved.Reads as plain-moved-reads
 use Rattle.cursor.proofs.db_iter.first.Reads as first-reads
 
--- src/db_iter.rt:158:57
+-- src/db_iter.rt:162:57
 cursor-of-requires : tie.Need-cursor-of-requires
 cursor-of-requires c κs = search needs
 
--- src/db_iter.rt:158:9
+-- src/db_iter.rt:162:9
 first-requires : tie.Need-first-requires
 first-requires c κs = search needs
 
--- src/db_iter.rt:156:5
+-- src/db_iter.rt:160:5
 plain-moved-requires : tie.Need-plain-moved-requires
 plain-moved-requires c κs = search needs
 
--- src/db_iter.rt:147:1
+-- src/db_iter.rt:151:1
 returns : tie.Need-returns
 returns c = let a = c .before .before .before .before .before .args in meant (λ (d : Cursor). Moves first (a .first .now) (a .second .now) (a .snapshot) d) (plainMoved (a .at)) (c .before .before .cursor-of .ensures) (c .before .first .ensures) (c .plain-moved .ensures)
 

@@ -12,19 +12,19 @@ use Rattle.capi.proofs.db_iter.cursor_of.Reads as cursor-of-reads
 use Rattle.capi.proofs.db_iter.plain_moved.Reads as plain-moved-reads
 use Rattle.cursor.proofs.db_iter.next.Reads as next-reads
 
--- src/db_iter.rt:189:56
+-- src/db_iter.rt:195:56
 cursor-of-requires : tie.Need-cursor-of-requires
 cursor-of-requires c κs = search needs
 
--- src/db_iter.rt:189:9
+-- src/db_iter.rt:195:9
 next-requires : tie.Need-next-requires
 next-requires c κs = search needs
 
--- src/db_iter.rt:187:5
+-- src/db_iter.rt:193:5
 plain-moved-requires : tie.Need-plain-moved-requires
 plain-moved-requires c κs = search needs
 
--- src/db_iter.rt:178:1
+-- src/db_iter.rt:184:1
 returns : tie.Need-returns
 returns c = let a = c .before .before .before .before .before .args in meant (λ (d : Cursor). Moves next (a .first .now) (a .second .now) (a .snapshot) d) (plainMoved (a .at)) (c .before .before .cursor-of .ensures) (c .before .next .ensures) (c .plain-moved .ensures)
 

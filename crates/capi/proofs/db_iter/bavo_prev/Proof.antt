@@ -12,19 +12,19 @@ use Rattle.capi.proofs.db_iter.cursor_of.Reads as cursor-of-reads
 use Rattle.capi.proofs.db_iter.plain_moved.Reads as plain-moved-reads
 use Rattle.cursor.proofs.db_iter.prev.Reads as prev-reads
 
--- src/db_iter.rt:204:56
+-- src/db_iter.rt:211:56
 cursor-of-requires : tie.Need-cursor-of-requires
 cursor-of-requires c κs = search needs
 
--- src/db_iter.rt:204:9
+-- src/db_iter.rt:211:9
 prev-requires : tie.Need-prev-requires
 prev-requires c κs = search needs
 
--- src/db_iter.rt:202:5
+-- src/db_iter.rt:209:5
 plain-moved-requires : tie.Need-plain-moved-requires
 plain-moved-requires c κs = search needs
 
--- src/db_iter.rt:193:1
+-- src/db_iter.rt:200:1
 returns : tie.Need-returns
 returns c = let a = c .before .before .before .before .before .args in meant (λ (d : Cursor). Moves previous (a .first .now) (a .second .now) (a .snapshot) d) (plainMoved (a .at)) (c .before .before .cursor-of .ensures) (c .before .prev .ensures) (c .plain-moved .ensures)
 

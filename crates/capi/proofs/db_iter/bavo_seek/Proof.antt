@@ -12,19 +12,19 @@ use Rattle.capi.proofs.db_iter.cursor_of.Reads as cursor-of-reads
 use Rattle.capi.proofs.db_iter.plain_moved.Reads as plain-moved-reads
 use Rattle.cursor.proofs.db_iter.seek.Reads as seek-reads
 
--- src/db_iter.rt:174:56
+-- src/db_iter.rt:179:56
 cursor-of-requires : tie.Need-cursor-of-requires
 cursor-of-requires c κs = search needs
 
--- src/db_iter.rt:174:9
+-- src/db_iter.rt:179:9
 seek-requires : tie.Need-seek-requires
 seek-requires c κs = search needs
 
--- src/db_iter.rt:172:5
+-- src/db_iter.rt:177:5
 plain-moved-requires : tie.Need-plain-moved-requires
 plain-moved-requires c κs = search needs
 
--- src/db_iter.rt:162:1
+-- src/db_iter.rt:167:1
 returns : tie.Need-returns
 returns c = let a = c .before .before .before .before .before .before .args in meant (λ (d : Cursor). Moves (seek (a .key .now)) (a .first .now) (a .second .now) (a .snapshot) d) (plainMoved (a .at)) (c .before .before .cursor-of .ensures) (c .before .seek .ensures) (c .plain-moved .ensures)
 

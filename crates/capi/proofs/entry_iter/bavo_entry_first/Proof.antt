@@ -12,19 +12,19 @@ use Rattle.capi.proofs.entry_iter.entry_cursor_of.Reads as entry-cursor
 use Rattle.capi.proofs.entry_iter.plain_entry_moved.Reads as plain-entry-moved-reads
 use Rattle.table.proofs.memtable_iter.entry_first.Reads as entry-first-reads
 
--- src/entry_iter.rt:80:46
+-- src/entry_iter.rt:82:46
 entry-cursor-of-requires : tie.Need-entry-cursor-of-requires
 entry-cursor-of-requires c κs = search needs
 
--- src/entry_iter.rt:80:27
+-- src/entry_iter.rt:82:27
 entry-first-requires : tie.Need-entry-first-requires
 entry-first-requires c κs = search needs
 
--- src/entry_iter.rt:80:5
+-- src/entry_iter.rt:82:5
 plain-entry-moved-requires : tie.Need-plain-entry-moved-requires
 plain-entry-moved-requires c κs = search needs
 
--- src/entry_iter.rt:76:1
+-- src/entry_iter.rt:78:1
 returns : tie.Need-returns
 returns c = let a = c .before .before .before .before .args in meant (λ (d : EntryCursor). Moves (a .image .now) first d) (plainEntryMoved (a .at)) (c .before .before .entry-cursor-of .ensures) (c .before .entry-first .ensures) (c .plain-entry-moved .ensures)
 

@@ -13,19 +13,19 @@ use Rattle.capi.proofs.entry_iter.entry_cursor_of.Reads as entry-cursor
 use Rattle.capi.proofs.memtable.plain_view.Reads as plain-view-reads
 use Rattle.table.proofs.entry_spans.entry_key_span.Reads as entry-key-span-reads
 
--- src/entry_iter.rt:113:38
+-- src/entry_iter.rt:119:38
 entry-cursor-of-requires : tie.Need-entry-cursor-of-requires
 entry-cursor-of-requires c κs = search needs
 
--- src/entry_iter.rt:113:16
+-- src/entry_iter.rt:119:16
 entry-key-span-requires : tie.Need-entry-key-span-requires
 entry-key-span-requires c κs = search needs
 
--- src/entry_iter.rt:113:5
+-- src/entry_iter.rt:119:5
 plain-view-requires : tie.Need-plain-view-requires
 plain-view-requires c κs = search needs
 
--- src/entry_iter.rt:109:1
+-- src/entry_iter.rt:115:1
 returns : tie.Need-returns
 returns c = let a = c .before .before .before .before .args in meant (λ (d : EntryCursor). Spans (a .image .now) (keyView (a .image .now) (cursorIs d))) plainView (c .before .before .entry-cursor-of .ensures) (c .before .entry-key-span .ensures) (c .plain-view .ensures)
 

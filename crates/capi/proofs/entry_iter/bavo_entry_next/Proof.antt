@@ -12,19 +12,19 @@ use Rattle.capi.proofs.entry_iter.entry_cursor_of.Reads as entry-cursor
 use Rattle.capi.proofs.entry_iter.plain_entry_moved.Reads as plain-entry-moved-reads
 use Rattle.table.proofs.memtable_iter.entry_next.Reads as entry-next-reads
 
--- src/entry_iter.rt:99:45
+-- src/entry_iter.rt:103:45
 entry-cursor-of-requires : tie.Need-entry-cursor-of-requires
 entry-cursor-of-requires c κs = search needs
 
--- src/entry_iter.rt:99:27
+-- src/entry_iter.rt:103:27
 entry-next-requires : tie.Need-entry-next-requires
 entry-next-requires c κs = search needs
 
--- src/entry_iter.rt:99:5
+-- src/entry_iter.rt:103:5
 plain-entry-moved-requires : tie.Need-plain-entry-moved-requires
 plain-entry-moved-requires c κs = search needs
 
--- src/entry_iter.rt:95:1
+-- src/entry_iter.rt:99:1
 returns : tie.Need-returns
 returns c = let a = c .before .before .before .before .args in meant (λ (d : EntryCursor). Moves (a .image .now) next d) (plainEntryMoved (a .at)) (c .before .before .entry-cursor-of .ensures) (c .before .entry-next .ensures) (c .plain-entry-moved .ensures)
 

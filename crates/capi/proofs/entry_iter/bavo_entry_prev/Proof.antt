@@ -12,19 +12,19 @@ use Rattle.capi.proofs.entry_iter.entry_cursor_of.Reads as entry-cursor
 use Rattle.capi.proofs.entry_iter.plain_entry_moved.Reads as plain-entry-moved-reads
 use Rattle.table.proofs.memtable_iter.entry_prev.Reads as entry-prev-reads
 
--- src/entry_iter.rt:106:45
+-- src/entry_iter.rt:111:45
 entry-cursor-of-requires : tie.Need-entry-cursor-of-requires
 entry-cursor-of-requires c κs = search needs
 
--- src/entry_iter.rt:106:27
+-- src/entry_iter.rt:111:27
 entry-prev-requires : tie.Need-entry-prev-requires
 entry-prev-requires c κs = search needs
 
--- src/entry_iter.rt:106:5
+-- src/entry_iter.rt:111:5
 plain-entry-moved-requires : tie.Need-plain-entry-moved-requires
 plain-entry-moved-requires c κs = search needs
 
--- src/entry_iter.rt:102:1
+-- src/entry_iter.rt:107:1
 returns : tie.Need-returns
 returns c = let a = c .before .before .before .before .args in meant (λ (d : EntryCursor). Moves (a .image .now) previous d) (plainEntryMoved (a .at)) (c .before .before .entry-cursor-of .ensures) (c .before .entry-prev .ensures) (c .plain-entry-moved .ensures)
 

@@ -6,15 +6,15 @@ use Rattle.capi.proofs.entry_iter.bavo_entry_refusal.Lts as lts
 use Rattle.capi.proofs.entry_iter.entry_cursor_of.Reads as entry-cursor-of-reads
 use Rattle.table.proofs.entry_views.entry_refusal.Reads as entry-refusal-reads
 
--- src/entry_iter.rt:141:26
+-- src/entry_iter.rt:151:26
 entry-cursor-of-requires : tie.Need-entry-cursor-of-requires
 entry-cursor-of-requires c κs = search needs
 
--- src/entry_iter.rt:141:5
+-- src/entry_iter.rt:151:5
 entry-refusal-requires : tie.Need-entry-refusal-requires
 entry-refusal-requires c κs = search needs
 
--- src/entry_iter.rt:137:1
+-- src/entry_iter.rt:147:1
 returns : tie.Need-returns
 returns c = rw (c .before .entry-cursor-of .ensures) at (c .entry-refusal .ensures)
 

@@ -12,19 +12,19 @@ use Rattle.capi.proofs.entry_iter.entry_cursor_of.Reads as entry-cursor
 use Rattle.capi.proofs.entry_iter.plain_entry_moved.Reads as plain-entry-moved-reads
 use Rattle.table.proofs.memtable_iter.entry_seek.Reads as entry-seek-reads
 
--- src/entry_iter.rt:92:45
+-- src/entry_iter.rt:95:45
 entry-cursor-of-requires : tie.Need-entry-cursor-of-requires
 entry-cursor-of-requires c κs = search needs
 
--- src/entry_iter.rt:92:27
+-- src/entry_iter.rt:95:27
 entry-seek-requires : tie.Need-entry-seek-requires
 entry-seek-requires c κs = search needs
 
--- src/entry_iter.rt:92:5
+-- src/entry_iter.rt:95:5
 plain-entry-moved-requires : tie.Need-plain-entry-moved-requires
 plain-entry-moved-requires c κs = search needs
 
--- src/entry_iter.rt:83:1
+-- src/entry_iter.rt:86:1
 returns : tie.Need-returns
 returns c = let a = c .before .before .before .before .before .args in meant (λ (d : EntryCursor). Moves (a .image .now) (seek (a .key .now) (a .number)) d) (plainEntryMoved (a .at)) (c .before .before .entry-cursor-of .ensures) (c .before .entry-seek .ensures) (c .plain-entry-moved .ensures)
 

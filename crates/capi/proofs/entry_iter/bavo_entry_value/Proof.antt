@@ -13,19 +13,19 @@ use Rattle.capi.proofs.entry_iter.entry_cursor_of.Reads as entry-cursor
 use Rattle.capi.proofs.memtable.plain_view.Reads as plain-view-reads
 use Rattle.table.proofs.entry_spans.entry_value_span.Reads as entry-value-span-reads
 
--- src/entry_iter.rt:120:40
+-- src/entry_iter.rt:127:40
 entry-cursor-of-requires : tie.Need-entry-cursor-of-requires
 entry-cursor-of-requires c κs = search needs
 
--- src/entry_iter.rt:120:16
+-- src/entry_iter.rt:127:16
 entry-value-span-requires : tie.Need-entry-value-span-requires
 entry-value-span-requires c κs = search needs
 
--- src/entry_iter.rt:120:5
+-- src/entry_iter.rt:127:5
 plain-view-requires : tie.Need-plain-view-requires
 plain-view-requires c κs = search needs
 
--- src/entry_iter.rt:116:1
+-- src/entry_iter.rt:123:1
 returns : tie.Need-returns
 returns c = let a = c .before .before .before .before .args in meant (λ (d : EntryCursor). Spans (a .image .now) (valueView (a .image .now) (cursorIs d))) plainView (c .before .before .entry-cursor-of .ensures) (c .before .entry-value-span .ensures) (c .plain-view .ensures)
 

@@ -12,19 +12,19 @@ use Rattle.capi.proofs.db_iter.cursor_of.Reads as cursor-of-reads
 use Rattle.capi.proofs.row_views.plain_row_view.Reads as plain-row-view-reads
 use Rattle.cursor.proofs.row_spans.row_key_span.Reads as row-key-span-reads
 
--- src/row_views.rt:55:48
+-- src/row_views.rt:57:48
 cursor-of-requires : tie.Need-cursor-of-requires
 cursor-of-requires c κs = search needs
 
--- src/row_views.rt:55:20
+-- src/row_views.rt:57:20
 row-key-span-requires : tie.Need-row-key-span-requires
 row-key-span-requires c κs = search needs
 
--- src/row_views.rt:55:5
+-- src/row_views.rt:57:5
 plain-row-view-requires : tie.Need-plain-row-view-requires
 plain-row-view-requires c κs = search needs
 
--- src/row_views.rt:51:1
+-- src/row_views.rt:53:1
 returns : tie.Need-returns
 returns c = let a = c .before .before .before .before .before .args in meant (λ (d : Cursor). RowSpans keyView (a .first .now) (a .second .now) d) plainRowView (c .before .before .cursor-of .ensures) (c .before .row-key-span .ensures) (c .plain-row-view .ensures)
 

@@ -6,15 +6,15 @@ use Rattle.capi.proofs.row_views.bavo_row_refusal.Lts as lts
 use Rattle.capi.proofs.db_iter.cursor_of.Reads as cursor-of-reads
 use Rattle.cursor.proofs.row_views.row_refusal.Reads as row-refusal-reads
 
--- src/row_views.rt:69:32
+-- src/row_views.rt:73:32
 cursor-of-requires : tie.Need-cursor-of-requires
 cursor-of-requires c κs = search needs
 
--- src/row_views.rt:69:5
+-- src/row_views.rt:73:5
 row-refusal-requires : tie.Need-row-refusal-requires
 row-refusal-requires c κs = search needs
 
--- src/row_views.rt:65:1
+-- src/row_views.rt:69:1
 returns : tie.Need-returns
 returns c = rw (c .before .cursor-of .ensures) at (c .row-refusal .ensures)
 

@@ -12,19 +12,19 @@ use Rattle.capi.proofs.db_iter.cursor_of.Reads as cursor-of-reads
 use Rattle.capi.proofs.row_views.plain_row_view.Reads as plain-row-view-reads
 use Rattle.cursor.proofs.row_spans.row_value_span.Reads as row-value-span-reads
 
--- src/row_views.rt:62:50
+-- src/row_views.rt:65:50
 cursor-of-requires : tie.Need-cursor-of-requires
 cursor-of-requires c κs = search needs
 
--- src/row_views.rt:62:20
+-- src/row_views.rt:65:20
 row-value-span-requires : tie.Need-row-value-span-requires
 row-value-span-requires c κs = search needs
 
--- src/row_views.rt:62:5
+-- src/row_views.rt:65:5
 plain-row-view-requires : tie.Need-plain-row-view-requires
 plain-row-view-requires c κs = search needs
 
--- src/row_views.rt:58:1
+-- src/row_views.rt:61:1
 returns : tie.Need-returns
 returns c = let a = c .before .before .before .before .before .args in meant (λ (d : Cursor). RowSpans valueView (a .first .now) (a .second .now) d) plainRowView (c .before .before .cursor-of .ensures) (c .before .row-value-span .ensures) (c .plain-row-view .ensures)
 
