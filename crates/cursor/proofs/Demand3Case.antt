@@ -3,7 +3,7 @@
 use Prim.Native.Nat.{ℕ, _≤_, _<_}
 use native.Mathlib.Omega.{arith}
 use mathlib.Core.Path.{_≡_, refl, sym, ap, _∙_}
-use mathlib.Core.List.{List, [], _∷_, List·Memᴰ, List·Memᴰ·tail}
+use mathlib.Core.List.{List, [], _∷_, _++_, List·Memᴰ, List·Memᴰ·tail}
 use mathlib.Core.Bool.{true, false≢true}
 use lib.ListN.{length, replicate}
 use Rattle.rule.specs.Lists.{Maybe, none, some, All}

@@ -1,20 +1,16 @@
 -- The five wrong programs that document 01 names under 'What the promises rule out': no promise allows their answers.
 use Prim.Native.Nat.{ℕ}
 use native.Mathlib.Omega.{arith}
-use mathlib.Core.Path.{_≡_, refl, sym, ap, _∙_}
-use mathlib.Core.List.{List, [], _∷_, _++_}
+use mathlib.Core.Path.{_≡_, sym, ap, _∙_}
+use mathlib.Core.List.{List, [], _∷_}
 use lib.ListN.{length, length-append}
-use Rattle.rule.specs.Lists.{none, some}
 use Rattle.rule.specs.Order.{compareKeys}
 use Rattle.rule.specs.Entries.{Entry}
-use Rattle.rule.specs.Moves.{Move, first, next}
+use Rattle.rule.specs.Moves.{first, next}
 use Rattle.image.specs.Sound.{Sound, held}
-use Rattle.image.specs.Add.{add}
-use Rattle.image.specs.BootBench.{put, a, b, x, y}
-use Rattle.image.specs.Refusals.{given}
+use Rattle.image.specs.BootBench.{put, a, x}
 use Rattle.image.proofs.Refusals.{refused-given}
 use Rattle.table.specs.Memtable.{Adds, Gets}
-use Rattle.table.specs.Growth as growth
 use Rattle.table.specs.declared.refusals.Refusal.{Refusal}
 use Rattle.table.specs.declared.memtable.Added.the-variants as added
 use Rattle.table.specs.declared.memtable.Lookup.the-variants as lookup
