@@ -1,4 +1,5 @@
 // What a call answered, or is to answer by document 01.
+use crate::fields::field;
 use crate::lines::same_bytes;
 use crate::show;
 use table::memtable::Added;
@@ -141,21 +142,16 @@ impl Answer {
 
     // Writes an answer; answers the places that its column has left.
     pub fn words(self, left: usize) -> usize {
-        match self {
-            Answer::Done => show::text(b"done", left),
-            Answer::Node(i) => show::counted(b"node ", i, left),
-            Answer::Entries(n) => show::counted(b"entries: ", n, left),
-            Answer::Found { node, looks } => {
-                looked(show::counted(b"found, node ", node, left), looks)
-            }
-            Answer::Deleted { looks } => looked(show::text(b"deleted", left), looks),
-            Answer::Absent { looks } => looked(show::text(b"absent", left), looks),
-            Answer::Held { looks } => looked(show::text(b"held", left), looks),
-            Answer::NotHeld { looks } => looked(show::text(b"not held", left), looks),
-            Answer::Sound => show::text(b"sound", left),
-            Answer::NotSound => show::text(b"not sound", left),
-            Answer::Refused(n) => show::counted(b"refused ", n as usize, left),
-            Answer::Changed(n) => show::counted(b"bytes changed, refused ", n as usize, left),
+        let code = self.code();
+        let all =
+            b"done|node |entries: |found, node |deleted|absent|held|not held|sound|not sound|refused |bytes changed, refused ";
+        let left = show::text(field(all, b'|', code.kind as usize), left);
+        let kind = code.kind;
+        match kind {
+            1 | 2 | 10 | 11 => show::number(code.first, left),
+            3 => looked(show::number(code.first, left), code.second),
+            4 | 5 | 6 | 7 => looked(left, code.second),
+            _ => left,
         }
     }
 }

@@ -3,6 +3,7 @@
 mod answers; // answers.rt: what a call answered, or is to answer
 mod damage; // damage.rt: headers and links that were overwritten
 mod entry; // entry.rt: entries of one-byte keys and values
+mod fields; // fields.rt: texts of fields
 mod limits; // limits.rt: lengths, heights, keys, values, numbers, types
 mod lines; // lines.rt: the line of a case
 mod moves; // moves.rt: the entry cursor over T

@@ -6,6 +6,9 @@
 //   CALL SNAPSHOT KEY VALUE SOUGHT GOES NAME a move, the row that it is to end on (- for nowhere), what a seek seeks, > if the cursor
 //                                            goes along, and the name of the case
 use crate::entry::only;
+use crate::fields::field;
+use crate::fields::fields;
+use crate::fields::find;
 use crate::lines::SAID_WIDTH;
 use crate::lines::call;
 use crate::lines::name;
@@ -22,54 +25,6 @@ use cursor::row_views::row_value;
 use table::key_types::Tag;
 use table::memtable::add;
 use table::memtable::fresh;
-ghost use Prim.Native.Nat.{_≤_};
-ghost use lib.ListN.{length};
-
-// Where a byte stands first from some place on, or the end.
-fn find(s: &[u8], from: usize, mark: u8) -> usize
-    requires { ⌜ from ≤ length (now s) ⌝ }
-    ensures { λ r. ⌜ (from ≤ r) × (r ≤ length (now (s .entry))) ⌝ }
-{
-    let mut i = from;
-    while i < s.len() {
-        if s[i] == mark {
-            return i;
-        }
-        i += 1;
-    }
-    i
-}
-
-// Where the field behind so many blanks begins, or the end.
-fn skip(s: &[u8], blanks: usize) -> usize
-    ensures { λ r. ⌜ r ≤ length (now (s .entry)) ⌝ }
-{
-    let mut left = blanks;
-    let mut i = 0;
-    while i < s.len() {
-        if left < 1 {
-            return i;
-        }
-        if s[i] == b' ' {
-            left -= 1;
-        }
-        i += 1;
-    }
-    i
-}
-
-// A line from its k-th field on, counted from 0.
-fn fields(s: &[u8], k: usize) -> &[u8] {
-    let from = skip(s, k);
-    &s[from..]
-}
-
-// The k-th field of a line.
-fn field(s: &[u8], k: usize) -> &[u8] {
-    let from = skip(s, k);
-    let to = find(s, from, b' ');
-    &s[from..to]
-}
 
 // What a field says; - is empty.
 fn text(s: &[u8]) -> &[u8] {
@@ -104,10 +59,17 @@ fn kind(value: &[u8]) -> u8 {
 
 // Makes the addition of a line.
 fn put(s: &[u8], image: &mut [u8]) {
-    let number = digit(field(s, 1)) as u64;
-    let value = field(s, 3);
-    let height = digit(field(s, 4));
-    add(image, field(s, 2), number, kind(value), text(value), height);
+    let number = digit(field(s, b' ', 1)) as u64;
+    let value = field(s, b' ', 3);
+    let height = digit(field(s, b' ', 4));
+    add(
+        image,
+        field(s, b' ', 2),
+        number,
+        kind(value),
+        text(value),
+        height,
+    );
 }
 
 // What a line does to the tables.
@@ -138,10 +100,10 @@ fn led(r: Moved) -> Cursor {
 
 // Makes the move of a line.
 fn moved<'a>(s: &[u8], f: &'a [u8], g: &'a [u8], at: Cursor) -> Cursor {
-    let snapshot = digit(field(s, 1)) as u64;
+    let snapshot = digit(field(s, b' ', 1)) as u64;
     match about(s) {
         b'f' => led(to_first(f, g, snapshot, at)),
-        b's' => led(seek(f, g, snapshot, at, field(s, 4))),
+        b's' => led(seek(f, g, snapshot, at, field(s, b' ', 4))),
         b'n' => led(next(f, g, snapshot, at)),
         _ => led(prev(f, g, snapshot, at)),
     }
@@ -167,12 +129,12 @@ fn same_row(key: &[u8], value: &[u8], k: &[u8], v: &[u8]) -> bool {
 
 // Writes a move: the row that it is to end on, or an empty key for nowhere, and the row where it ended.
 fn row_case<'a>(s: &[u8], f: &'a [u8], g: &'a [u8], at: Cursor) {
-    let key = text(field(s, 2));
-    let value = text(field(s, 3));
+    let key = text(field(s, b' ', 2));
+    let value = text(field(s, b' ', 3));
     let k = row_key(f, g, at);
     let v = row_value(f, g, at);
-    name(fields(s, 6));
-    call(field(s, 0));
+    name(fields(s, b' ', 6));
+    call(field(s, b' ', 0));
     show::blanks(row_words(key, value, SAID_WIDTH));
     show::blanks(1);
     show::blanks(row_words(k, v, SAID_WIDTH));
@@ -183,7 +145,7 @@ fn row_case<'a>(s: &[u8], f: &'a [u8], g: &'a [u8], at: Cursor) {
 fn go<'a>(s: &[u8], f: &'a [u8], g: &'a [u8], at: Cursor) -> Cursor {
     let c = moved(s, f, g, at);
     row_case(s, f, g, c);
-    if only(field(s, 5)) == b'>' {
+    if only(field(s, b' ', 5)) == b'>' {
         return c;
     }
     at

@@ -1,3 +1,4 @@
+use Rattle.table.specs.Entries.{entry}
 use Rattle.table.proofs.Insertion.{spaced-at, node-put-together}
 use mathlib.Core.Path.{refl}
 use native.Mathlib.Omega.{arith}
@@ -45,7 +46,7 @@ same-length c = search needs
 
 -- src/insert.rt:47:1
 returns : tie.Need-returns
-returns c = let a = c .before .before .before .before .before .before .before .before .before .before .before .before .before .before .before .before .before .before .before .before .before .args in node-put-together _ _ _ _ (a .links .now) _ _ _ _ (c .before .before .before .before .before .before .before .before .before .before .before .before .before .before .before .before .before .before .before .before .before .pre .height-most) (c .before .before .before .before .before .before .before .before .before .before .before .before .before .before .before .before .before .entry-size .ensures .is _ refl refl) (c .before .before .before .before .before .before .before .before .before .before .before .before .before .before .before .put-word .ensures) (c .before .before .before .before .before .before .before .before .before .before .before .put-word2 .ensures) (c .before .before .before .before .before .before .put-words .ensures) (c .before .before .put-entry .ensures)
+returns c = let a = c .before .before .before .before .before .before .before .before .before .before .before .before .before .before .before .before .before .before .before .before .before .args in node-put-together (a .free .now) (a .height) _ (entry (a .key .now) (a .number) (a .kind) (a .value .now)) (a .links .now) _ _ _ _ (c .before .before .before .before .before .before .before .before .before .before .before .before .before .before .before .before .before .before .before .before .before .pre .height-most) (c .before .before .before .before .before .before .before .before .before .before .before .before .before .before .before .before .before .entry-size .ensures .is (entry (a .key .now) (a .number) (a .kind) (a .value .now)) refl refl) (c .before .before .before .before .before .before .before .before .before .before .before .before .before .before .before .put-word .ensures) (c .before .before .before .before .before .before .before .before .before .before .before .put-word2 .ensures) (c .before .before .before .before .before .before .put-words .ensures) (c .before .before .put-entry .ensures)
 
 pub put-node-spec : {M : Type 1} → statement M
 put-node-spec =

@@ -1,3 +1,4 @@
+use Rattle.image.specs.Search.{toStop, searched}
 use Rattle.table.proofs.Lookups.{get-header, get-number, get-key, get-ready, get-damaged, get-hit, get-ends, gets, told, hit-in, end-in}
 use borrow.Author.Needs.{needs}
 use Rattle.table.proofs.memtable.get.Statement.{statement}
@@ -44,7 +45,7 @@ enum-known-spot c = search needs
 
 -- src/memtable.rt:194:45
 said-at-requires : tie.Need-said-at-requires
-said-at-requires c κs = let a = c .before .before .before .before .before .before .before .before .before .before .before .args in let b = c .before .before .before .before in hit-in (a .s .now) (a .key .now) (a .snapshot) (get-ready (a .s .now) (a .key .now) (a .snapshot) (b .before .before .before .before .header-holds .ensures) (b .before .before .before .if1 .left) (b .before .before .fits2 .ensures) (b .before .if2 .left)) (told (c .before .before .before .search .result) _ (c .before .before .before .search .ensures) (c .before .spot .given .1))
+said-at-requires c κs = let a = c .before .before .before .before .before .before .before .before .before .before .before .args in let b = c .before .before .before .before in hit-in (a .s .now) (a .key .now) (a .snapshot) (get-ready (a .s .now) (a .key .now) (a .snapshot) (b .before .before .before .before .header-holds .ensures) (b .before .before .before .if1 .left) (b .before .before .fits2 .ensures) (b .before .if2 .left)) (told (c .before .before .before .search .result) _ {f = searched (a .s .now) toStop (a .key .now) (a .snapshot)} (c .before .before .before .search .ensures) (c .before .spot .given .1))
 
 -- src/memtable.rt:194:38
 looked-requires : tie.Need-looked-requires
@@ -56,7 +57,7 @@ enum-known-spot-2 c = search needs
 
 -- src/memtable.rt:199:21
 said-at-requires-2 : tie.Need-said-at-requires-2
-said-at-requires-2 c κs = let a = c .before .before .before .before .before .before .before .before .before .before .before .args in let b = c .before .before .before .before in end-in (a .s .now) (a .key .now) (a .snapshot) (get-ready (a .s .now) (a .key .now) (a .snapshot) (b .before .before .before .before .header-holds .ensures) (b .before .before .before .if1 .left) (b .before .before .fits2 .ensures) (b .before .if2 .left)) (told (c .before .before .before .search .result) _ (c .before .before .before .search .ensures) (c .before .spot2 .given .1))
+said-at-requires-2 c κs = let a = c .before .before .before .before .before .before .before .before .before .before .before .args in let b = c .before .before .before .before in end-in (a .s .now) (a .key .now) (a .snapshot) (get-ready (a .s .now) (a .key .now) (a .snapshot) (b .before .before .before .before .header-holds .ensures) (b .before .before .before .if1 .left) (b .before .before .fits2 .ensures) (b .before .if2 .left)) (told (c .before .before .before .search .result) _ {f = searched (a .s .now) toStop (a .key .now) (a .snapshot)} (c .before .before .before .search .ensures) (c .before .spot2 .given .1))
 
 -- src/memtable.rt:199:14
 looked-requires-2 : tie.Need-looked-requires-2
@@ -64,15 +65,15 @@ looked-requires-2 c κs = search needs
 
 -- src/memtable.rt:178:1
 returns-4 : tie.Need-returns-4
-returns-4 c = let b = c .before .before .before in gets _ _ _ _ (get-damaged _ _ _ (b .before .before .before .before .header-holds .ensures) (b .before .before .before .if1 .left) (b .before .before .fits2 .ensures) (b .before .if2 .left) (b .if3 .left) (told (c .before .before .search .result) _ (c .before .before .search .ensures) (c .enum-told .given .1)))
+returns-4 c = let b = c .before .before .before in let a = b .before .before .before .before .before .before .before .args in gets _ _ _ _ (get-damaged _ _ _ (b .before .before .before .before .header-holds .ensures) (b .before .before .before .if1 .left) (b .before .before .fits2 .ensures) (b .before .if2 .left) (b .if3 .left) (told (c .before .before .search .result) _ {f = searched (a .s .now) toStop (a .key .now) (a .snapshot)} (c .before .before .search .ensures) (c .enum-told .given .1)))
 
 -- src/memtable.rt:178:1
 returns-5 : tie.Need-returns-5
-returns-5 c = let b = c .before .before .before .before .before .before in gets _ _ _ _ (get-hit _ _ _ (b .before .before .before .before .header-holds .ensures) (b .before .before .before .if1 .left) (b .before .before .fits2 .ensures) (b .before .if2 .left) (b .if3 .left) (told (c .before .before .before .before .before .search .result) _ (c .before .before .before .before .before .search .ensures) (c .before .before .before .spot .given .1)) (c .before .said-at .ensures) (c .looked .ensures))
+returns-5 c = let b = c .before .before .before .before .before .before in let a = b .before .before .before .before .before .before .before .args in gets _ _ _ _ (get-hit _ _ _ (b .before .before .before .before .header-holds .ensures) (b .before .before .before .if1 .left) (b .before .before .fits2 .ensures) (b .before .if2 .left) (b .if3 .left) (told (c .before .before .before .before .before .search .result) _ {f = searched (a .s .now) toStop (a .key .now) (a .snapshot)} (c .before .before .before .before .before .search .ensures) (c .before .before .before .spot .given .1)) (c .before .said-at .ensures) (c .looked .ensures))
 
 -- src/memtable.rt:178:1
 returns-6 : tie.Need-returns-6
-returns-6 c = let b = c .before .before .before .before .before .before in gets _ _ _ _ (get-ends _ _ _ (b .before .before .before .before .header-holds .ensures) (b .before .before .before .if1 .left) (b .before .before .fits2 .ensures) (b .before .if2 .left) (b .if3 .left) (told (c .before .before .before .before .before .search .result) _ (c .before .before .before .before .before .search .ensures) (c .before .before .before .spot2 .given .1)) (c .before .said-at2 .ensures) (c .looked2 .ensures))
+returns-6 c = let b = c .before .before .before .before .before .before in let a = b .before .before .before .before .before .before .before .args in gets _ _ _ _ (get-ends _ _ _ (b .before .before .before .before .header-holds .ensures) (b .before .before .before .if1 .left) (b .before .before .fits2 .ensures) (b .before .if2 .left) (b .if3 .left) (told (c .before .before .before .before .before .search .result) _ {f = searched (a .s .now) toStop (a .key .now) (a .snapshot)} (c .before .before .before .before .before .search .ensures) (c .before .before .before .spot2 .given .1)) (c .before .said-at2 .ensures) (c .looked2 .ensures))
 
 pub get-spec : {M : Type 1} → statement M
 get-spec =

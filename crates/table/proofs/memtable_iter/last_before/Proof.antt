@@ -1,5 +1,5 @@
 use Rattle.table.proofs.Lookups.{told}
-use Rattle.image.specs.Search.{toGoDown, hit, ends, passed}
+use Rattle.image.specs.Search.{toGoDown, hit, ends, passed, searched}
 use Rattle.table.proofs.Cursors.{landed-damaged, landed}
 use mathlib.Core.Path.{_≡_, refl, sym, ap, _∙_}
 use borrow.Author.Needs.{needs}
@@ -32,15 +32,15 @@ cursor-at-requires c κs = search needs
 
 -- src/memtable_iter.rt:106:1
 returns : tie.Need-returns
-returns c = let a = c .before .before .before .before .before .args in landed-damaged (a .s .now) toGoDown passed (a .key .now) (a .number) (told (c .before .before .search .result) _ (c .before .before .search .ensures) (c .enum-told .given .1))
+returns c = let a = c .before .before .before .before .before .args in landed-damaged (a .s .now) toGoDown passed (a .key .now) (a .number) (told (c .before .before .search .result) _ {f = searched (a .s .now) toGoDown (a .key .now) (a .number)} (c .before .before .search .ensures) (c .enum-told .given .1))
 
 -- src/memtable_iter.rt:106:1
 returns-2 : tie.Need-returns-2
-returns-2 c = let a = c .before .before .before .before .before .args in landed (a .s .now) toGoDown passed (a .key .now) (a .number) _ (told (c .before .before .search .result) _ (c .before .before .search .ensures) (c .enum-told2 .given .1)) refl
+returns-2 c = let a = c .before .before .before .before .before .args in landed (a .s .now) toGoDown passed (a .key .now) (a .number) _ (told (c .before .before .search .result) _ {f = searched (a .s .now) toGoDown (a .key .now) (a .number)} (c .before .before .search .ensures) (c .enum-told2 .given .1)) refl
 
 -- src/memtable_iter.rt:106:1
 returns-3 : tie.Need-returns-3
-returns-3 c = let a = c .before .before .before .before .before .before .before .args in landed (a .s .now) toGoDown passed (a .key .now) (a .number) _ (told (c .before .before .before .before .search .result) _ (c .before .before .before .before .search .ensures) (c .before .before .spot .given .1)) (c .cursor-at .ensures)
+returns-3 c = let a = c .before .before .before .before .before .before .before .args in landed (a .s .now) toGoDown passed (a .key .now) (a .number) _ (told (c .before .before .before .before .search .result) _ {f = searched (a .s .now) toGoDown (a .key .now) (a .number)} (c .before .before .before .before .search .ensures) (c .before .before .spot .given .1)) (c .cursor-at .ensures)
 
 pub last-before-spec : {M : Type 1} → statement M
 last-before-spec =

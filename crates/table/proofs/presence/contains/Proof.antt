@@ -1,3 +1,4 @@
+use Rattle.image.specs.Search.{toStop, searched}
 use Rattle.table.proofs.Presences.{has, has-header, has-kind, has-number, has-key, has-ready, has-node, has-damaged, has-hit, has-not}
 use Rattle.table.proofs.Lookups.{told}
 use borrow.Author.Needs.{needs}
@@ -53,7 +54,7 @@ enum-known-spot c = search needs
 
 -- src/presence.rt:67:38
 held-at-requires : tie.Need-held-at-requires
-held-at-requires c κs = let a = c .before .before .before .before .before .before .before .before .before .before .before .before .before .args in has-node (a .s .now) (a .key .now) (a .number) (a .kind) (c .before .before .before .before .before .before .before .before .before .before .header-holds .ensures) (c .before .before .before .before .before .before .before .before .before .if1 .left) (c .before .before .before .before .before .before .before .before .known .ensures) (c .before .before .before .before .before .before .before .if2 .left) (c .before .before .before .before .before .before .fits2 .ensures) (c .before .before .before .before .before .if3 .left) (told (c .before .before .before .search .result) _ (c .before .before .before .search .ensures) (c .before .spot .given .1))
+held-at-requires c κs = let a = c .before .before .before .before .before .before .before .before .before .before .before .before .before .args in has-node (a .s .now) (a .key .now) (a .number) (a .kind) (c .before .before .before .before .before .before .before .before .before .before .header-holds .ensures) (c .before .before .before .before .before .before .before .before .before .if1 .left) (c .before .before .before .before .before .before .before .before .known .ensures) (c .before .before .before .before .before .before .before .if2 .left) (c .before .before .before .before .before .before .fits2 .ensures) (c .before .before .before .before .before .if3 .left) (told (c .before .before .before .search .result) _ {f = searched (a .s .now) toStop (a .key .now) (a .number)} (c .before .before .before .search .ensures) (c .before .spot .given .1))
 
 -- src/presence.rt:71:13
 enum-known-spot-2 : tie.Need-enum-known-spot-2

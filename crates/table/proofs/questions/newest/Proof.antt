@@ -1,7 +1,7 @@
 use Rattle.table.proofs.Cursors.{test-ready}
 use Rattle.table.proofs.Asking.{tells-newest, newest-header, newest-damaged, newest-said}
 use Rattle.table.proofs.Lookups.{told, hit-in, end-in}
-use Rattle.image.specs.Search.{hit, ends}
+use Rattle.image.specs.Search.{toStop, hit, ends, searched}
 use borrow.Author.Needs.{needs}
 use Rattle.table.proofs.questions.newest.Statement.{statement}
 use Rattle.table.proofs.questions.newest.Tie as tie
@@ -34,7 +34,7 @@ enum-known-spot c = search needs
 
 -- src/questions.rt:186:51
 said-at-requires : tie.Need-said-at-requires
-said-at-requires c κs = let a = c .before .before .before .before .before .before .before .before .args in hit-in (a .s .now) (a .key .now) (a .number) (test-ready (a .s .now) (c .before .before .before .before .before .header-holds .ensures) (c .before .before .before .before .if1 .left)) (told (c .before .before .before .search .result) _ (c .before .before .before .search .ensures) (c .before .spot .given .1))
+said-at-requires c κs = let a = c .before .before .before .before .before .before .before .before .args in hit-in (a .s .now) (a .key .now) (a .number) (test-ready (a .s .now) (c .before .before .before .before .before .header-holds .ensures) (c .before .before .before .before .if1 .left)) (told (c .before .before .before .search .result) _ {f = searched (a .s .now) toStop (a .key .now) (a .number)} (c .before .before .before .search .ensures) (c .before .spot .given .1))
 
 -- src/questions.rt:186:41
 with-node-requires : tie.Need-with-node-requires
@@ -46,7 +46,7 @@ enum-known-spot-2 c = search needs
 
 -- src/questions.rt:191:24
 said-at-requires-2 : tie.Need-said-at-requires-2
-said-at-requires-2 c κs = let a = c .before .before .before .before .before .before .before .before .args in end-in (a .s .now) (a .key .now) (a .number) (test-ready (a .s .now) (c .before .before .before .before .before .header-holds .ensures) (c .before .before .before .before .if1 .left)) (told (c .before .before .before .search .result) _ (c .before .before .before .search .ensures) (c .before .spot2 .given .1))
+said-at-requires-2 c κs = let a = c .before .before .before .before .before .before .before .before .args in end-in (a .s .now) (a .key .now) (a .number) (test-ready (a .s .now) (c .before .before .before .before .before .header-holds .ensures) (c .before .before .before .before .if1 .left)) (told (c .before .before .before .search .result) _ {f = searched (a .s .now) toStop (a .key .now) (a .number)} (c .before .before .before .search .ensures) (c .before .spot2 .given .1))
 
 -- src/questions.rt:191:14
 with-node-requires-2 : tie.Need-with-node-requires-2

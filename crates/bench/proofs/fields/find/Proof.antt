@@ -1,9 +1,9 @@
--- `pairs::find`: one byte a turn.
+-- `fields::find`: one byte a turn.
 use borrow.Author.Needs.{needs}
 use Prim.Native.Nat.{_≤_, _-_}
 use lib.ListN.{length}
-use Rattle.bench.proofs.pairs.find.Statement.{statement}
-use Rattle.bench.proofs.pairs.find.Tie as tie
+use Rattle.bench.proofs.fields.find.Statement.{statement}
+use Rattle.bench.proofs.fields.find.Tie as tie
 
 abbrev Inv-loop : tie.InvT-loop
 Inv-loop s from mark i₀ i = (from ≤ i) × (i ≤ length s)

@@ -1,15 +1,15 @@
--- `pairs::skip`: one byte a turn.
+-- `fields::skip`: one byte a turn.
 use borrow.Author.Needs.{needs}
 use Prim.Native.Nat.{_≤_, _-_}
 use lib.ListN.{length}
-use Rattle.bench.proofs.pairs.skip.Statement.{statement}
-use Rattle.bench.proofs.pairs.skip.Tie as tie
+use Rattle.bench.proofs.fields.skip.Statement.{statement}
+use Rattle.bench.proofs.fields.skip.Tie as tie
 
 abbrev Inv-loop : tie.InvT-loop
-Inv-loop s blanks left₀ i₀ left i = i ≤ length s
+Inv-loop s mark k left₀ i₀ left i = i ≤ length s
 
 abbrev μ-loop : tie.MeasureT-loop
-μ-loop s blanks left₀ i₀ left i = length s - i
+μ-loop s mark k left₀ i₀ left i = length s - i
 
 loop-holds : tie.Need-loop-holds Inv-loop μ-loop
 loop-holds c = search needs
