@@ -1,6 +1,9 @@
 -- The answers of the code as those of the definitions, and the ranges that come with them.
 use Prim.Native.Nat.{ℕ, _<_, _≤_}
-use Rattle.rule.specs.Order.{Ord, less, equal, greater}
+use mathlib.Core.Path.{_≡_}
+use mathlib.Core.List.{List}
+use lib.ListN.{length, drop}
+use Rattle.rule.specs.Order.{Ord, less, equal, greater, compareKeys}
 use Rattle.image.specs.Readers.{Read, got, bad}
 use Rattle.image.specs.Entries.{Len}
 use Rattle.table.specs.declared.key_types.LenRead.{LenRead}
@@ -23,3 +26,9 @@ abbrev pub ordOf : Ordering → Ord
 ordOf Less = less
 ordOf Equal = equal
 ordOf Greater = greater
+
+-- two keys have r bytes in common at their front, so what is behind them decides
+pub record Front (a b : List ℕ) (r : ℕ) : Type 0 where
+  pub first : r ≤ length a
+  pub second : r ≤ length b
+  pub rest : compareKeys a b ≡ compareKeys (drop r a) (drop r b)

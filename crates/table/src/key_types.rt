@@ -8,7 +8,7 @@ ghost use Rattle.rule.specs.Order.{compareKeys, compareEntries};
 ghost use Rattle.image.specs.Limits.{maxNumber};
 ghost use Rattle.image.specs.Words.{fixed, bytes};
 ghost use Rattle.image.specs.Entries.{varint, lenAt};
-ghost use Rattle.table.specs.KeyTypes.{lenRead, LenFits, ordOf};
+ghost use Rattle.table.specs.KeyTypes.{lenRead, LenFits, ordOf, Front};
 use crate::words::get_word;
 use crate::words::put_word;
 use crate::words::wide;
@@ -159,11 +159,30 @@ pub enum Ordering {
     Greater,
 }
 
+// How many bytes two keys have in common at their front, in steps of eight: eight bytes are one number of the machine.
+fn common_front(a: &[u8], b: &[u8]) -> usize
+    ensures { λ r. ⌜ Front (now (a .entry)) (now (b .entry)) r ⌝ }
+{
+    let mut i = 0;
+    while a.len() - i >= 8 {
+        if b.len() - i < 8 {
+            return i;
+        }
+        let x = get_tag(a, i);
+        let y = get_tag(b, i);
+        if x.word != y.word {
+            return i;
+        }
+        i += 8;
+    }
+    i
+}
+
 // Two keys by their bytes; a proper prefix comes first.
 pub fn compare_keys(a: &[u8], b: &[u8]) -> Ordering
     ensures { λ r. ⌜ ordOf r ≡ compareKeys (now (a .entry)) (now (b .entry)) ⌝ }
 {
-    let mut i = 0;
+    let mut i = common_front(a, b);
     while i < a.len() {
         if i >= b.len() {
             return Ordering::Greater;

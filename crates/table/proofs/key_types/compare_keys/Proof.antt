@@ -4,7 +4,7 @@ use Prim.Native.Nat.{_-_, _≤_}
 use mathlib.Core.Path.{_≡_, sym, _∙_}
 use lib.ListN.{length}
 use Rattle.rule.specs.Order.{compareKeys}
-use Rattle.table.proofs.Order.{left, left-all, both-ended, first-ended, second-ended, less-byte, greater-byte, same-byte}
+use Rattle.table.proofs.Order.{left, left-front, both-ended, first-ended, second-ended, less-byte, greater-byte, same-byte}
 use Rattle.table.proofs.key_types.compare_keys.Statement.{statement}
 use Rattle.table.proofs.key_types.compare_keys.Tie as tie
 
@@ -14,8 +14,11 @@ Inv-loop a b i₀ i = (i ≤ length a) × (i ≤ length b) × (compareKeys a b �
 abbrev μ-loop : tie.MeasureT-loop
 μ-loop a b i₀ i = length a - i
 
+common-front-requires : tie.Need-common-front-requires Inv-loop μ-loop
+common-front-requires c κs = search needs
+
 loop-holds : tie.Need-loop-holds Inv-loop μ-loop
-loop-holds c = (search needs, search needs, left-all _ _)
+loop-holds c = let f = c .common-front .ensures in (f .first, f .second, left-front _ _ _ f)
 
 returns : tie.Need-returns Inv-loop μ-loop
 returns c = second-ended _ _ _ (c .before .loop-test .taken) (c .if1 .taken) ∙ sym (c .before .before .loop .inv .2)
@@ -53,6 +56,7 @@ compare-keys-spec =
     (tie.spec
     Inv-loop
     μ-loop
+    common-front-requires
     loop-holds
     returns
     shared-slice-read-x
