@@ -1,0 +1,86 @@
+// What a replay carries besides the bytes of the two images: their lengths, and where the three cursors are, in a record's numbers.
+
+// A place: of the visible cursor 0 nowhere, 1 in the first table, 2 in the second; of an entry cursor 0 nowhere, 1 on a node.
+// Any other number is a cursor that names no node of any table.
+pub struct Spot {
+    pub on: u32,
+    pub node: usize,
+}
+
+impl Spot {
+    pub fn new(on: u32, node: usize) -> Spot {
+        Spot { on, node }
+    }
+
+    pub fn same(self, other: Spot) -> bool {
+        if self.on != other.on {
+            return false;
+        }
+        self.node == other.node
+    }
+}
+
+pub struct State {
+    pub first_len: usize,
+    pub second_len: usize,
+    pub at: Spot,
+    pub first_at: Spot,
+    pub second_at: Spot,
+}
+
+// Whether a record's answer was the recorded one, and the state after its call.
+pub struct Step {
+    pub right: bool,
+    pub state: State,
+}
+
+impl State {
+    // The state at the start of a case.
+    pub fn new() -> State {
+        State {
+            first_len: 64,
+            second_len: 64,
+            at: Spot::new(0, 0),
+            first_at: Spot::new(0, 0),
+            second_at: Spot::new(0, 0),
+        }
+    }
+
+    // With the length of a table's image.
+    pub fn with_len(mut self, second: bool, len: usize) -> State {
+        if second {
+            self.second_len = len;
+        } else {
+            self.first_len = len;
+        }
+        self
+    }
+
+    // With the visible cursor.
+    pub fn with_cursor(mut self, at: Spot) -> State {
+        self.at = at;
+        self
+    }
+
+    // With the entry cursor of a table.
+    pub fn with_entry_cursor(mut self, second: bool, at: Spot) -> State {
+        if second {
+            self.second_at = at;
+        } else {
+            self.first_at = at;
+        }
+        self
+    }
+
+    // The entry cursor of a table.
+    pub fn entry_at(self, second: bool) -> Spot {
+        if second {
+            return self.second_at;
+        }
+        self.first_at
+    }
+
+    pub fn step(self, right: bool) -> Step {
+        Step { right, state: self }
+    }
+}
