@@ -97,13 +97,15 @@ fn present(b: &[u8], image: &[u8]) -> bool {
 }
 
 fn checked(b: &[u8], image: &[u8]) -> bool {
-    let recorded = record::answer(b) == 1;
-    is_sound(image) == recorded
+    Said::of_check(is_sound(image)).holds(b)
 }
 
-// Whether a part of the image has the recorded bytes.
+// Whether a part of the image, of at least one byte, has the recorded bytes.
 fn has_part(b: &[u8], image: &[u8]) -> bool {
     let bytes = record::value(b);
+    if bytes.len() < 1 {
+        return false;
+    }
     let from = record::number(b) as usize;
     same(bytes, record::part(image, from, bytes.len()))
 }

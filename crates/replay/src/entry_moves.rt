@@ -1,7 +1,8 @@
 // The moves of a table's entry cursor.
-use crate::moves::Landing;
 use crate::record;
+use crate::state::Landing;
 use crate::state::Spot;
+use crate::state::refused_right;
 use check::same;
 use table::entry_views::entry_key;
 use table::entry_views::entry_kind;
@@ -42,14 +43,6 @@ fn moved(b: &[u8], image: &[u8], c: EntryCursor) -> EntryMoved {
     }
 }
 
-// Whether a cursor stands where the record says.
-fn stands(b: &[u8], at: Spot) -> bool {
-    if record::place(b) != at.on {
-        return false;
-    }
-    record::is_node(b, at.node)
-}
-
 // The recorded answer of an entry of a type: 1 a value, 2 a deletion.
 fn answer_of(kind: u8) -> u32 {
     if kind == Tag::VALUE { 1 } else { 2 }
@@ -75,25 +68,22 @@ fn led_right(b: &[u8], image: &[u8], c: EntryCursor) -> bool {
     if record::refusal(b) != 0 {
         return false;
     }
-    if !stands(b, spot_of(c)) {
+    let at = spot_of(c);
+    if !at.holds(b) {
         return false;
     }
     match c {
-        EntryCursor::Nowhere => record::answer(b) == 0,
+        EntryCursor::Nowhere => record::shows_nothing(b),
         EntryCursor::On(_) => shows(b, image, c),
     }
 }
 
-// Whether a refused move is recorded, and handed back the cursor that it was handed.
-fn refused_right(b: &[u8], number: u32, at: Spot, handed: EntryCursor) -> bool {
-    if record::refusal(b) != number {
+// Whether a refused move is the recorded one.
+fn refused(b: &[u8], number: u32, at: Spot, back: EntryCursor) -> bool {
+    if !at.holds(b) {
         return false;
     }
-    let kept = spot_of(cursor_of(at));
-    if !kept.same(spot_of(handed)) {
-        return false;
-    }
-    stands(b, at)
+    refused_right(b, number, spot_of(cursor_of(at)), spot_of(back))
 }
 
 // Replays a move.
@@ -105,7 +95,7 @@ pub fn replay(b: &[u8], image: &[u8], at: Spot) -> Landing {
             at: spot_of(c),
         },
         EntryMoved::Refused(q, c) => Landing {
-            right: refused_right(b, q.number(), at, c),
+            right: refused(b, q.number(), at, c),
             at,
         },
     }

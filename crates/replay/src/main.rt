@@ -30,7 +30,7 @@ fn replayed(b: &[u8], first: &mut [u8], second: &mut [u8], s: State, t: Tally) -
         };
     }
     let step = calls::replay(b, first, second, s);
-    let right = step.right;
+    let right = record::is_formed(b) && step.right;
     let state = step.state;
     tally::wrong(t, right);
     Run {

@@ -1,7 +1,9 @@
 // The moves of the visible cursor over both tables.
 use crate::record;
 use crate::said::side_number;
+use crate::state::Landing;
 use crate::state::Spot;
+use crate::state::refused_right;
 use check::same;
 use cursor::db_iter::Moved;
 use cursor::db_iter::first as to_first;
@@ -57,14 +59,12 @@ fn moved<'a>(b: &[u8], first: &'a [u8], second: &'a [u8], c: Cursor) -> Moved {
     }
 }
 
-// Whether a cursor stands where the record says, where the oracle tells it.
+// Whether a spot is the recorded one, as far as the oracle tells it.
 fn stands(b: &[u8], at: Spot) -> bool {
-    if record::place(b) != record::ANY_PLACE {
-        if record::place(b) != at.on {
-            return false;
-        }
+    if record::place(b) == record::ANY_PLACE {
+        return record::is_node(b, at.node);
     }
-    record::is_node(b, at.node)
+    at.holds(b)
 }
 
 // Whether the row at a cursor is the recorded one.
@@ -92,22 +92,12 @@ fn led_right<'a>(b: &[u8], first: &'a [u8], second: &'a [u8], c: Cursor) -> bool
     shows(b, first, second, c)
 }
 
-// Whether a refused move is recorded, and handed back the cursor that it was handed.
-fn refused_right(b: &[u8], number: u32, at: Spot, handed: Cursor) -> bool {
-    if record::refusal(b) != number {
+// Whether a refused move is the recorded one.
+fn refused(b: &[u8], number: u32, at: Spot, back: Cursor) -> bool {
+    if !stands(b, at) {
         return false;
     }
-    let kept = spot_of(cursor_of(at));
-    if !kept.same(spot_of(handed)) {
-        return false;
-    }
-    stands(b, at)
-}
-
-// Whether a move is right, and where the cursor is then.
-pub struct Landing {
-    pub right: bool,
-    pub at: Spot,
+    refused_right(b, number, spot_of(cursor_of(at)), spot_of(back))
 }
 
 // Replays a move.
@@ -119,7 +109,7 @@ pub fn replay<'a>(b: &[u8], first: &'a [u8], second: &'a [u8], at: Spot) -> Land
             at: spot_of(c),
         },
         Moved::Refused(q, c) => Landing {
-            right: refused_right(b, q.number(), at, c),
+            right: refused(b, q.number(), at, c),
             at,
         },
     }

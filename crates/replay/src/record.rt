@@ -139,6 +139,28 @@ pub fn value(b: &[u8]) -> &[u8] {
     part(b, 40, byte(b, 18) as usize)
 }
 
+// Whether key, shown key and value have no more bytes than they have room.
+pub fn is_formed(b: &[u8]) -> bool {
+    if byte(b, 16) > 8 {
+        return false;
+    }
+    if byte(b, 17) > 8 {
+        return false;
+    }
+    byte(b, 18) <= 8
+}
+
+// Whether the answer is 0, with no key and no value.
+pub fn shows_nothing(b: &[u8]) -> bool {
+    if byte(b, 5) != 0 {
+        return false;
+    }
+    if byte(b, 17) != 0 {
+        return false;
+    }
+    byte(b, 18) == 0
+}
+
 // Whether a number is the recorded one, where the oracle tells it.
 fn is_told(told: usize, got: usize) -> bool {
     if told == UNTOLD {

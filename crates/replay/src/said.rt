@@ -77,6 +77,10 @@ impl Said {
         }
     }
 
+    pub fn of_check(sound: bool) -> Said {
+        Said::told(sound as u32, 0, 0, 0)
+    }
+
     pub fn of_pair(r: PairLookup) -> Said {
         match r {
             PairLookup::Found { place, looks } => {

@@ -1,4 +1,5 @@
 // What a replay carries besides the bytes of the two images: their lengths, and where the three cursors are, in a record's numbers.
+use crate::record;
 
 // A place: of the visible cursor 0 nowhere, 1 in the first table, 2 in the second; of an entry cursor 0 nowhere, 1 on a node.
 // Any other number is a cursor that names no node of any table.
@@ -12,12 +13,37 @@ impl Spot {
         Spot { on, node }
     }
 
-    pub fn same(self, other: Spot) -> bool {
+    fn same(self, other: Spot) -> bool {
         if self.on != other.on {
             return false;
         }
         self.node == other.node
     }
+
+    // Whether it is the recorded one.
+    pub fn holds(self, b: &[u8]) -> bool {
+        if self.on != record::place(b) {
+            return false;
+        }
+        record::is_node(b, self.node)
+    }
+}
+
+// Whether a move ended as recorded, and where the cursor is then.
+pub struct Landing {
+    pub right: bool,
+    pub at: Spot,
+}
+
+// Whether a refused move is recorded, with no row, and handed back the spot that it was handed.
+pub fn refused_right(b: &[u8], number: u32, handed: Spot, back: Spot) -> bool {
+    if record::refusal(b) != number {
+        return false;
+    }
+    if !record::shows_nothing(b) {
+        return false;
+    }
+    handed.same(back)
 }
 
 pub struct State {
