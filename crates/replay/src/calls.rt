@@ -5,7 +5,6 @@ use crate::record;
 use crate::said::Said;
 use crate::state::Spot;
 use crate::state::State;
-use crate::state::Step;
 use check::same;
 use cursor::merging_iter::get_pair;
 use table::check::check as is_sound;
@@ -122,34 +121,34 @@ fn asked(b: &[u8], image: &[u8]) -> bool {
 }
 
 // The calls on one table that change no byte.
-fn on_table(b: &[u8], image: &[u8], s: State) -> Step {
+fn on_table(b: &[u8], image: &[u8], s: State) -> State {
     let second = record::is_second(b);
     match record::op(b) {
         record::ENTRY_FIRST | record::ENTRY_SEEK | record::ENTRY_NEXT | record::ENTRY_PREV => {
             let landing = entry_moves::replay(b, image, s.entry_at(second));
             let at = landing.at;
-            s.with_entry_cursor(second, at).step(landing.right)
+            s.with_entry_cursor(second, at).judged(landing.right)
         }
         record::SET_ENTRY_CURSOR => {
             let at = Spot::new(record::answer(b), record::node(b));
-            s.with_entry_cursor(second, at).step(true)
+            s.with_entry_cursor(second, at).judged(true)
         }
-        _ => s.step(asked(b, image)),
+        _ => s.judged(asked(b, image)),
     }
 }
 
 // The calls that change no byte.
-fn looked<'a>(b: &[u8], first: &'a [u8], second: &'a [u8], s: State) -> Step {
+fn looked<'a>(b: &[u8], first: &'a [u8], second: &'a [u8], s: State) -> State {
     match record::op(b) {
-        record::PAIR_GET => s.step(got_pair(b, first, second)),
+        record::PAIR_GET => s.judged(got_pair(b, first, second)),
         record::FIRST | record::SEEK | record::NEXT | record::PREV => {
             let landing = moves::replay(b, first, second, s.at);
             let at = landing.at;
-            s.with_cursor(at).step(landing.right)
+            s.with_cursor(at).judged(landing.right)
         }
         record::SET_CURSOR => {
             let at = Spot::new(record::place(b), record::node(b));
-            s.with_cursor(at).step(true)
+            s.with_cursor(at).judged(true)
         }
         _ => {
             if record::is_second(b) {
@@ -161,25 +160,28 @@ fn looked<'a>(b: &[u8], first: &'a [u8], second: &'a [u8], s: State) -> Step {
 }
 
 // The calls that change a table's bytes.
-fn changed(b: &[u8], memory: &mut [u8], len: usize, s: State) -> Step {
+fn changed(b: &[u8], memory: &mut [u8], len: usize, s: State) -> State {
     let second = record::is_second(b);
     if record::op(b) == record::ADD {
-        return s.step(written_in(b, memory, len));
+        return s.judged(written_in(b, memory, len));
     }
     let n = room(memory, record::number(b));
     let right = written_in(b, memory, n);
-    s.with_len(second, n).step(right)
+    s.with_len(second, n).judged(right)
 }
 
 // Begins a case: both images of zero bytes, every cursor nowhere.
-fn begun(first: &mut [u8], second: &mut [u8]) -> Step {
+fn begun(first: &mut [u8], second: &mut [u8]) -> State {
     clear(first);
     clear(second);
-    State::new().step(true)
+    State::new()
 }
 
 // Replays a record.
-pub fn replay(b: &[u8], first: &mut [u8], second: &mut [u8], s: State) -> Step {
+pub fn replay(b: &[u8], first: &mut [u8], second: &mut [u8], s: State) -> State {
+    if !record::is_formed(b) {
+        return s.judged(false);
+    }
     match record::op(b) {
         record::CASE => begun(first, second),
         record::FRESH | record::ADD => {

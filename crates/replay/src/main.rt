@@ -10,70 +10,95 @@ mod state; // state.rt: lengths of the images and places of the cursors
 mod tally; // tally.rt: how many answers were as recorded
 
 use crate::state::State;
-use crate::state::Step;
-use crate::tally::Tally;
 
-// What a replay has come to.
+// More records than a list has.
+const MOST: usize = 1000000;
+
+// What a record leaves: the state, and at the end of the list whether it was all there.
 struct Run {
     state: State,
-    tally: Tally,
     ended: bool,
+    whole: bool,
 }
 
-// Replays one record that was read, or ends the list.
-fn replayed(b: &[u8], first: &mut [u8], second: &mut [u8], s: State, t: Tally) -> Run {
-    if record::op(b) == record::END {
-        return Run {
-            state: s,
-            tally: t.ended(record::number(b)),
-            ended: true,
-        };
-    }
-    let step = calls::replay(b, first, second, s);
-    let right = record::is_formed(b) && step.right;
-    let state = step.state;
-    tally::wrong(t, right);
-    Run {
-        state,
-        tally: t.noted(record::oracle(b), right),
-        ended: false,
-    }
-}
-
-// Reads a record and replays it. A list that stops before its end record has none.
-fn read_one(first: &mut [u8], second: &mut [u8], s: State, t: Tally) -> Run {
-    let mut b = [0u8; 48];
-    let n = io::read_full(0, &mut b);
-    if n < record::SIZE {
-        return Run {
-            state: s,
-            tally: t,
-            ended: true,
-        };
-    }
-    replayed(&b, first, second, s, t)
-}
-
-// Replays a list of up to a million records.
-fn list(first: &mut [u8], second: &mut [u8]) -> Tally {
-    let mut s = State::new();
-    let mut t = Tally::new();
-    let mut left: usize = 1000000;
-    while left > 0 {
-        left -= 1;
-        let r = read_one(first, second, s, t);
-        s = r.state;
-        t = r.tally;
-        if r.ended {
-            return t;
+impl Run {
+    fn goes_on(state: State) -> Run {
+        Run {
+            state,
+            ended: false,
+            whole: false,
         }
     }
-    t
+
+    fn ends(state: State, whole: bool) -> Run {
+        Run {
+            state,
+            ended: true,
+            whole,
+        }
+    }
+}
+
+// Whether standard input has no byte left.
+fn is_over() -> bool {
+    let mut b = [0u8; 1];
+    let n = io::read_full(0, &mut b);
+    n == 0
+}
+
+// Whether the end record says how many records stand before it, and is the last.
+fn ends_whole(b: &[u8], n: usize) -> bool {
+    if record::number(b) != n as u64 {
+        return false;
+    }
+    is_over()
+}
+
+// Replays the record with the number n, the first being 0, or ends the list.
+fn replayed(
+    b: &[u8],
+    first: &mut [u8],
+    second: &mut [u8],
+    s: State,
+    n: usize,
+    counts: &mut [u64; 9],
+) -> Run {
+    if record::op(b) == record::END {
+        return Run::ends(s, ends_whole(b, n));
+    }
+    let after = calls::replay(b, first, second, s);
+    tally::note(counts, record::oracle(b), n, after.right);
+    Run::goes_on(after)
+}
+
+// Reads a record and replays it. A list that stops before its end record is not all there.
+fn read_one(first: &mut [u8], second: &mut [u8], s: State, n: usize, counts: &mut [u64; 9]) -> Run {
+    let mut b = [0u8; 48];
+    if io::read_full(0, &mut b) < record::SIZE {
+        return Run::ends(s, false);
+    }
+    replayed(&b, first, second, s, n, counts)
+}
+
+// Replays a list; answers whether it was all there.
+fn list(first: &mut [u8], second: &mut [u8], counts: &mut [u64; 9]) -> bool {
+    let mut s = State::new();
+    let mut n = 0;
+    while n < MOST {
+        let r = read_one(first, second, s, n, counts);
+        s = r.state;
+        if r.ended {
+            return r.whole;
+        }
+        n += 1;
+    }
+    false
 }
 
 fn main() {
     let mut first = [0u8; 4096];
     let mut second = [0u8; 4096];
-    let t = list(&mut first, &mut second);
-    t.show();
+    let mut counts = [0u64; 9];
+    let whole = list(&mut first, &mut second, &mut counts);
+    tally::show(&counts, whole);
 }

@@ -47,6 +47,8 @@ pub fn refused_right(b: &[u8], number: u32, handed: Spot, back: Spot) -> bool {
 }
 
 pub struct State {
+    // Whether the last record's answer was the recorded one.
+    pub right: bool,
     pub first_len: usize,
     pub second_len: usize,
     pub at: Spot,
@@ -54,16 +56,11 @@ pub struct State {
     pub second_at: Spot,
 }
 
-// Whether a record's answer was the recorded one, and the state after its call.
-pub struct Step {
-    pub right: bool,
-    pub state: State,
-}
-
 impl State {
     // The state at the start of a case.
     pub fn new() -> State {
         State {
+            right: true,
             first_len: 64,
             second_len: 64,
             at: Spot::new(0, 0),
@@ -106,7 +103,9 @@ impl State {
         self.first_at
     }
 
-    pub fn step(self, right: bool) -> Step {
-        Step { right, state: self }
+    // With a judgement of the last record.
+    pub fn judged(mut self, right: bool) -> State {
+        self.right = right;
+        self
     }
 }

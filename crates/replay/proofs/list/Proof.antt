@@ -1,27 +1,23 @@
 -- `replay::list`: one record a turn; both images keep their lengths.
 use borrow.Author.Needs.{needs}
 use mathlib.Core.Path.{_≡_}
+use Prim.Native.Nat.{_≤_, _-_}
 use lib.ListN.{length}
 use Rattle.replay.proofs.list.Statement.{statement}
 use Rattle.replay.proofs.list.Tie as tie
 
 abbrev Inv-loop : tie.InvT-loop
-Inv-loop first₀ second₀ s₀ t₀ left₀ first second s t left = (length first ≡ length first₀) × (length second ≡ length second₀)
+Inv-loop first₀ second₀ counts₀ s₀ n₀ first second counts s n =
+    (n ≤ 1000000) × (length first ≡ length first₀) × (length second ≡ length second₀)
 
 abbrev μ-loop : tie.MeasureT-loop
-μ-loop first₀ second₀ s₀ t₀ left₀ first second s t left = left
+μ-loop first₀ second₀ counts₀ s₀ n₀ first second counts s n = 1000000 - n
 
 new-requires : tie.Need-new-requires Inv-loop μ-loop
 new-requires c κs = search needs
 
-new-requires-2 : tie.Need-new-requires-2 Inv-loop μ-loop
-new-requires-2 c κs = search needs
-
 loop-holds : tie.Need-loop-holds Inv-loop μ-loop
 loop-holds c = search needs
-
-sub-left : tie.Need-sub-left Inv-loop μ-loop
-sub-left c = search needs
 
 read-one-requires : tie.Need-read-one-requires Inv-loop μ-loop
 read-one-requires c κs = search needs
@@ -34,6 +30,9 @@ same-length-2 c = search needs
 
 returns : tie.Need-returns Inv-loop μ-loop
 returns c = search needs
+
+add-n : tie.Need-add-n Inv-loop μ-loop
+add-n c = search needs
 
 loop-less : tie.Need-loop-less Inv-loop μ-loop
 loop-less c = search needs
@@ -57,13 +56,12 @@ list-spec =
     Inv-loop
     μ-loop
     new-requires
-    new-requires-2
     loop-holds
-    sub-left
     read-one-requires
     same-length
     same-length-2
     returns
+    add-n
     loop-less
     loop-again
     same-length-3
