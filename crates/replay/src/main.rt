@@ -61,7 +61,7 @@ fn replayed(
     second: &mut [u8],
     s: State,
     n: usize,
-    counts: &mut [u64; 9],
+    counts: &mut [u64; 10],
 ) -> Run {
     if record::op(b) == record::END {
         return Run::ends(s, ends_whole(b, n));
@@ -72,7 +72,13 @@ fn replayed(
 }
 
 // Reads a record and replays it. A list that stops before its end record is not all there.
-fn read_one(first: &mut [u8], second: &mut [u8], s: State, n: usize, counts: &mut [u64; 9]) -> Run {
+fn read_one(
+    first: &mut [u8],
+    second: &mut [u8],
+    s: State,
+    n: usize,
+    counts: &mut [u64; 10],
+) -> Run {
     let mut b = [0u8; 48];
     if io::read_full(0, &mut b) < record::SIZE {
         return Run::ends(s, false);
@@ -81,7 +87,7 @@ fn read_one(first: &mut [u8], second: &mut [u8], s: State, n: usize, counts: &mu
 }
 
 // Replays a list; answers whether it was all there.
-fn list(first: &mut [u8], second: &mut [u8], counts: &mut [u64; 9]) -> bool {
+fn list(first: &mut [u8], second: &mut [u8], counts: &mut [u64; 10]) -> bool {
     let mut s = State::new();
     let mut n = 0;
     while n < MOST {
@@ -98,7 +104,7 @@ fn list(first: &mut [u8], second: &mut [u8], counts: &mut [u64; 9]) -> bool {
 fn main() {
     let mut first = [0u8; 4096];
     let mut second = [0u8; 4096];
-    let mut counts = [0u64; 9];
+    let mut counts = [0u64; 10];
     let whole = list(&mut first, &mut second, &mut counts);
     tally::show(&counts, whole);
 }

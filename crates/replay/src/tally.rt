@@ -1,8 +1,11 @@
-// How many records there were of each oracle, and how many of them were as recorded. Of the four, set-up, model, crate and LevelDB,
-// the counts are two numbers each: records, and right ones. The ninth number is that of all records.
+// How many records there were, and how many of them were as recorded: two counts each for the set-up, the model, the crate, LevelDB
+// and all together, in this order.
 ghost use Prim.Native.Nat.{_≤_};
 
-// Where an oracle's counts begin.
+// Where the counts of all records stand.
+const ALL: usize = 8;
+
+// Where an oracle's counts stand.
 fn place_of(oracle: u8) -> usize
     ensures { λ r. ⌜ r ≤ 6 ⌝ }
 {
@@ -15,35 +18,48 @@ fn place_of(oracle: u8) -> usize
 }
 
 // Counts one more.
-fn count(counts: &mut [u64; 9], i: usize)
-    requires { ⌜ i ≤ 8 ⌝ }
+fn count(counts: &mut [u64; 10], i: usize)
+    requires { ⌜ i ≤ 9 ⌝ }
 {
     if counts[i] < u64::MAX {
         counts[i] += 1;
     }
 }
 
-// Notes the record with the number n, and says so if its answer is not the recorded one.
-pub fn note(counts: &mut [u64; 9], oracle: u8, n: usize, right: bool) {
-    let i = place_of(oracle);
-    count(counts, 8);
+// Counts a record that is right.
+fn right_one(counts: &mut [u64; 10], i: usize)
+    requires { ⌜ i ≤ 8 ⌝ }
+{
     count(counts, i);
+    count(counts, i + 1);
+}
+
+// Says that a record's answer is not the recorded one.
+fn wrong_one(n: usize) {
+    io::write_all(1, b"WRONG: record ");
+    io::print_decimal(1, n as u64);
+    io::write_all(1, b"\n");
+}
+
+// Notes the record with the number n, the first being 0.
+pub fn note(counts: &mut [u64; 10], oracle: u8, n: usize, right: bool) {
+    let i = place_of(oracle);
     if right {
-        count(counts, i + 1);
+        right_one(counts, i);
+        right_one(counts, ALL);
     } else {
-        io::write_all(1, b"WRONG: record ");
-        io::print_decimal(1, n as u64);
-        io::write_all(1, b"\n");
+        count(counts, i);
+        count(counts, ALL);
+        wrong_one(n);
     }
 }
 
-// Writes how many of how many; answers whether it was all.
-fn line(asked: u64, right: u64, of: &[u8]) -> bool {
+// Writes how many of how many.
+fn line(right: u64, asked: u64, of: &[u8]) {
     io::print_decimal(1, right);
     io::write_all(1, b" of ");
     io::print_decimal(1, asked);
     io::write_all(1, of);
-    right == asked
 }
 
 // Writes the last line.
@@ -62,17 +78,25 @@ fn verdict(right: bool, whole: bool) {
     io::write_all(1, b"all as recorded\n");
 }
 
-// Writes the counts, and last whether all is as recorded.
-pub fn show(counts: &[u64; 9], whole: bool) {
-    io::print_decimal(1, counts[8]);
-    io::write_all(1, b" records replayed\n");
-    let set_up = line(counts[0], counts[1], b" set-up calls as recorded\n");
-    let model = line(counts[2], counts[3], b" answers of the model as recorded\n");
-    let published = line(
-        counts[4],
+// Writes the counts of each oracle.
+fn oracles(counts: &[u64; 10]) {
+    line(counts[1], counts[0], b" set-up calls\n");
+    line(counts[3], counts[2], b" answers of the model\n");
+    line(
         counts[5],
-        b" answers of the crate rusty-leveldb as recorded\n",
+        counts[4],
+        b" answers of the crate rusty-leveldb\n",
     );
-    let leveldb = line(counts[6], counts[7], b" answers of LevelDB as recorded\n");
-    verdict(set_up && model && published && leveldb, whole);
+    line(counts[7], counts[6], b" answers of LevelDB\n");
+}
+
+// Writes the counts, and last whether all is as recorded.
+pub fn show(counts: &[u64; 10], whole: bool) {
+    line(
+        counts[9],
+        counts[8],
+        b" records replayed as recorded, of these\n",
+    );
+    oracles(counts);
+    verdict(counts[8] == counts[9], whole);
 }
