@@ -83,6 +83,7 @@ abbrev pub FoundIn : List ℕ → List ℕ → List ℕ → ℕ → Side → ℕ
 FoundIn f g k s First i = Tells f k s (one.found i)
 FoundIn f g k s Second i = Tells f k s one.absent × Tells g k s (one.found i)
 
+-- what the whole answer tells
 abbrev pub TellsPair : List ℕ → List ℕ → List ℕ → ℕ → PairSays → Type 0
 TellsPair f g k s (found p) = FoundIn f g k s (p .table) (p .node)
 TellsPair f g k s deleted = Tells f k s one.deleted ⊎ (Tells f k s one.absent × Tells g k s one.deleted)
@@ -92,6 +93,7 @@ TellsPair f g k s absent = Tells f k s one.absent × Tells g k s one.absent
 abbrev pub PairRule : List ℕ → List ℕ → List ℕ → ℕ → PairLookup → Type 0
 PairRule f g k s r = (a : PairLooked) × (pairAs r ≡ given a) × TellsPair f g k s (a .says) × (a .looks ≤ (count f + levels) + (count g + levels))
 
+-- what the lookup in a pair promises
 pub record GetsPair (f g k : List ℕ) (s : ℕ) (r : PairLookup) : Type 0 where
   pub exact : pairAs r ≡ getPair f g k s
   pub rule : Sound f → Sound g → s ≤ maxNumber → length k ≤ maxKey → PairRule f g k s r

@@ -26,10 +26,12 @@ abbrev pub entryShown : (Entry → List ℕ) → List ℕ → List ℕ → Curso
 entryShown show f g Nowhere = []
 entryShown show f g (On p) = show (entryAt f g p)
 
+-- what the view of the key promises
 pub record ShowsKey (f g : List ℕ) (c : Cursor) (v : List ℕ) : Type 0 where
   pub exact : v ≡ shownOn keyAt f g c
   pub rule : Sound f → Sound g → CursorIn f g c → v ≡ entryShown (λ e. e .key) f g c
 
+-- what the view of the value promises
 pub record ShowsValue (f g : List ℕ) (c : Cursor) (v : List ℕ) : Type 0 where
   pub exact : v ≡ shownOn valueAt f g c
   pub rule : Sound f → Sound g → CursorIn f g c → v ≡ entryShown valueIn f g c

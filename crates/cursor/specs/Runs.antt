@@ -99,6 +99,7 @@ pub data Learnt : Type 0 where
   deleted : Learnt
   absent : Learnt
 
+-- what it learns of an answer
 abbrev pub learnt : List ℕ → Lookup → Learnt
 learnt xs (lookup.Found i looks) = found (viewed xs (valueView xs (on i)))
 learnt xs (lookup.Deleted looks) = deleted

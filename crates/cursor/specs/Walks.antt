@@ -49,15 +49,17 @@ StepIn f g (step.Pass m) = MeetingIn f g m
 StepIn f g step.End = Unit
 StepIn f g step.Damaged = Unit
 
+-- what a turn promises
 pub record Stepped (f g : List ℕ) (s : ℕ) (c : Cut) (t : List ℕ) (r : Step) : Type 0 where
   pub rule : Sound f → Sound g → StepRule f g s c t r
   pub range : StepIn f g r
 
--- the cut where a walk has come to, and its key
+-- the cut where a walk has come to
 abbrev pub cutFrom : Cut → Reached → Cut
 cutFrom c Start = c
 cutFrom c (Past p) = pastOf c
 
+-- the key that it is at there
 abbrev pub keyFrom : List ℕ → List ℕ → List ℕ → Reached → List ℕ
 keyFrom f g t Start = t
 keyFrom f g t (Past p) = keyAt f g p
@@ -94,6 +96,7 @@ FoundIn f g (found.At p) = PlaceIn f g p
 FoundIn f g found.Nothing = Unit
 FoundIn f g found.Damaged = Unit
 
+-- what a walk promises
 pub record Walked (f g : List ℕ) (s : ℕ) (c : Cut) (t : List ℕ) (r : Found) : Type 0 where
   pub rule : Sound f → Sound g → Ends f g s (bestOf f g s c t) r
   pub range : FoundIn f g r

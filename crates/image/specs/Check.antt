@@ -12,6 +12,7 @@ use Rattle.image.specs.Readers.{Read, got, bad}
 use Rattle.image.specs.Nodes.{count, free, slot, Node, nodeAt, heightOf, entryOf, linkOf}
 use Rattle.image.specs.Sound.{headerHolds}
 
+-- a test of a node that can be read; one that cannot fails it
 abbrev pub ifRead : Read Node → (Node → Bool) → Bool
 ifRead (got m) f = f m
 ifRead (bad o) f = false

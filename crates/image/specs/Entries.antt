@@ -78,10 +78,11 @@ restAt xs end k =
 abbrev pub partsAt : List ℕ → ℕ → ℕ → Read Parts
 partsAt xs o end = bind (keyedAt xs o end) (restAt xs end)
 
--- its key and its number
+-- its key
 abbrev pub keyIn : List ℕ → Keyed → List ℕ
 keyIn xs k = part xs (k .keyAt) (k .keyLen)
 
+-- and its number
 abbrev pub numberIn : Keyed → ℕ
 numberIn k = k .tagIs / 256
 

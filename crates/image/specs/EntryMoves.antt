@@ -30,6 +30,7 @@ abbrev pub inTable : List ℕ → Cursor → Bool
 inTable xs nowhere = true
 inTable xs (on i) = both (leb 1 i) (leb i (count xs))
 
+-- the moves of the entry cursor
 pub data EntryMove : Type 0 where
   first : EntryMove
   seek : List ℕ → ℕ → EntryMove
@@ -75,6 +76,7 @@ pub record Span : Type 0 where
   pub at : ℕ
   pub len : ℕ
 
+-- an empty part
 abbrev pub emptySpan : Span
 emptySpan = record { at = 0; len = 0 }
 
@@ -106,16 +108,19 @@ keySpan p = record { at = p .keyed .keyAt; len = p .keyed .keyLen }
 abbrev pub valueSpan : Parts → Span
 valueSpan p = cond (eqb (kindIn p) valueKind) (record { at = p .valueAt; len = p .valueLen }) emptySpan
 
--- the four views at a cursor
+-- the views at a cursor: of the key of its entry
 abbrev pub keyView : List ℕ → Cursor → Answer Span
 keyView xs c = view keySpan emptySpan (partsOn xs c)
 
+-- of its value
 abbrev pub valueView : List ℕ → Cursor → Answer Span
 valueView xs c = view valueSpan emptySpan (partsOn xs c)
 
+-- of its number
 abbrev pub numberView : List ℕ → Cursor → Answer ℕ
 numberView xs c = view (λ p. numberIn (p .keyed)) 0 (partsOn xs c)
 
+-- of its type
 abbrev pub kindView : List ℕ → Cursor → Answer ℕ
 kindView xs c = view kindIn 0 (partsOn xs c)
 

@@ -53,6 +53,7 @@ leadAt xs limit o =
     (bind (keyedAt xs (entryPlace o (word xs o)) (entryPlace o (word xs o) + word xs (o + 4))) (λ k.
     got (record { start = o; height = word xs o; keyed = k; end = entryPlace o (word xs o) + word xs (o + 4) })))))
 
+-- a node: its place and height, the parts of its entry, and where it ends
 pub record Node : Type 0 where
   pub start : ℕ
   pub height : ℕ
@@ -77,6 +78,7 @@ nodeAt xs i = bind (leadOf xs i) (nodeFrom xs)
 abbrev pub blank : Entry
 blank = record { key = []; number = 0; kind = 0; value = [] }
 
+-- the entry of a node that was read
 abbrev pub entryFrom : List ℕ → Read Node → Entry
 entryFrom xs (got m) = entryIn xs (m .parts)
 entryFrom xs (bad o) = blank

@@ -13,10 +13,11 @@ pub record Entry : Type 0 where
   pub kind : ℕ
   pub value : List ℕ
 
--- the two kinds
+-- a deletion
 abbrev pub deletionKind : ℕ
 deletionKind = 0
 
+-- a value
 abbrev pub valueKind : ℕ
 valueKind = 1
 

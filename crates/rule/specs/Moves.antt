@@ -7,10 +7,11 @@ use Rattle.rule.specs.Order.{compareKeys, isLess}
 use Rattle.rule.specs.Entries.{Entry}
 use Rattle.rule.specs.Rows.{row}
 
--- a comes before b, upward and downward
+-- a comes before b: upward
 abbrev pub below : List ℕ → List ℕ → Bool
 below a b = isLess (compareKeys a b)
 
+-- downward
 abbrev pub above : List ℕ → List ℕ → Bool
 above a b = isLess (compareKeys b a)
 
@@ -28,6 +29,7 @@ best before cut s all (e ∷ es) = cond (both (cut (e .key)) (isSome (row (e .ke
 abbrev pub every : List ℕ → Bool
 every k = true
 
+-- the moves of the visible cursor
 pub data Move : Type 0 where
   first : Move
   seek : List ℕ → Move

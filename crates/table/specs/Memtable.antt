@@ -35,6 +35,7 @@ abbrev pub freshAfter : List ℕ → Answer (List ℕ) → List ℕ
 freshAfter xs (refused r) = xs
 freshAfter xs (given ys) = ys
 
+-- what `fresh` promises, with the bytes afterwards
 pub record Freshens (xs : List ℕ) (r : Freshened) (ys : List ℕ) : Type 0 where
   pub exact : freshenedAs r ys ≡ fresh xs
   pub bytes : ys ≡ freshAfter xs (fresh xs)
@@ -52,6 +53,7 @@ abbrev pub AddRule : List ℕ → Entry → Added → List ℕ → Type 0
 AddRule xs e (added.Node i) ys = Sound ys × (held ys ≡ held xs ++ (e ∷ [])) × (i ≡ count xs + 1)
 AddRule xs e (added.Refused q) ys = refusalIs q ≡ damaged → ⊥
 
+-- what `add` promises, with the bytes afterwards
 pub record Adds (xs : List ℕ) (e : Entry) (height : ℕ) (r : Added) (ys : List ℕ) : Type 0 where
   pub exact : addedAs r ys ≡ add xs e height
   pub bytes : ys ≡ afterwards xs (add xs e height)
@@ -87,6 +89,7 @@ lookupAs (lookup.Refused q) = refused (refusalIs q)
 abbrev pub GetRule : List ℕ → List ℕ → ℕ → Lookup → Type 0
 GetRule xs k s r = (a : LookupIs) × (lookupAs r ≡ given a) × Tells xs k s (a .says) × (a .looks ≤ count xs + levels)
 
+-- what `get` promises
 pub record Gets (xs k : List ℕ) (s : ℕ) (r : Lookup) : Type 0 where
   pub exact : lookupAs r ≡ get xs k s
   pub rule : Sound xs → s ≤ maxNumber → length k ≤ maxKey → GetRule xs k s r

@@ -43,6 +43,7 @@ abbrev pub HandsBack : EntryCursor → EntryMoved → Type 0
 HandsBack c (To d) = Unit
 HandsBack c (Refused q d) = d ≡ c
 
+-- what a move of the entry cursor promises
 pub record Moves (xs : List ℕ) (m : EntryMove) (c : EntryCursor) (r : EntryMoved) : Type 0 where
   pub exact : movedAs r ≡ entryMove xs m (cursorIs c)
   pub handed : HandsBack c r

@@ -28,6 +28,7 @@ presenceAs (Refused q) = refused (refusalIs q)
 abbrev pub PresenceRule : List ℕ → List ℕ → ℕ → ℕ → Presence → Type 0
 PresenceRule xs k n kind r = (a : PresenceIs) × (presenceAs r ≡ given a) × ((a .held ≡ true) ↔ IsHeld xs k n kind) × (a .looks ≤ count xs + levels)
 
+-- what `contains` promises
 pub record Contains (xs k : List ℕ) (n kind : ℕ) (r : Presence) : Type 0 where
   pub exact : presenceAs r ≡ presence xs k n kind
   pub rule : Sound xs → kind ≤ 1 → n ≤ maxNumber → length k ≤ maxKey → PresenceRule xs k n kind r
@@ -48,6 +49,7 @@ abbrev pub rowValue : Maybe (List ℕ) → List ℕ
 rowValue none = []
 rowValue (some v) = v
 
+-- what `get_value` promises
 pub record ShowsRow (xs k : List ℕ) (s : ℕ) (v : List ℕ) : Type 0 where
   pub exact : v ≡ foundValue xs (get xs k s)
   pub rule : Sound xs → s ≤ maxNumber → length k ≤ maxKey → v ≡ rowValue (row k s (held xs))

@@ -50,6 +50,7 @@ hitAs (hit.At i) = given (on i)
 hitAs hit.Nothing = given nowhere
 hitAs hit.Damaged = refused damaged
 
+-- what the question for the nearest key promises
 pub record Nears (xs : List ℕ) (c : CutIs) (t : List ℕ) (r : Hit) : Type 0 where
   pub exact : hitAs r ≡ nearest xs c t
   pub rule : Sound xs → Gives (NearestIs xs c t) (hitAs r)
@@ -64,6 +65,7 @@ newestAs (newest.Deletion i) = given (deletion i)
 newestAs newest.Absent = given nothing
 newestAs newest.Damaged = refused damaged
 
+-- what the question for the newest entry promises
 pub record TellsNewest (xs k : List ℕ) (s : ℕ) (r : NewestAt) : Type 0 where
   pub exact : newestAs r ≡ newestAt xs k s
   pub rule : Sound xs → Gives (NewestIs xs k s) (newestAs r)
