@@ -55,7 +55,7 @@ fn read_one(
     after
 }
 
-// Replays a list.
+// Replays a list. One with too many records is wrong where it is left.
 fn list(first: &mut [u8], second: &mut [u8], counts: &mut [u64; 10]) {
     let mut s = State::new();
     let mut n = 0;
@@ -66,6 +66,7 @@ fn list(first: &mut [u8], second: &mut [u8], counts: &mut [u64; 10]) {
         }
         n += 1;
     }
+    tally::note(counts, 0, n, false);
 }
 
 fn main() {
