@@ -159,6 +159,13 @@ fn looked<'a>(b: &[u8], first: &'a [u8], second: &'a [u8], s: State) -> State {
     }
 }
 
+// The same on the images in the first bytes of the tables' memories.
+fn looked_in<'a>(b: &[u8], first: &'a [u8], second: &'a [u8], s: State) -> State {
+    let one = record::part(first, 0, s.first_len);
+    let two = record::part(second, 0, s.second_len);
+    looked(b, one, two, s)
+}
+
 // The calls that change a table's bytes.
 fn changed(b: &[u8], memory: &mut [u8], len: usize, s: State) -> State {
     let second = record::is_second(b);
@@ -179,9 +186,6 @@ fn begun(first: &mut [u8], second: &mut [u8]) -> State {
 
 // Replays a record.
 pub fn replay(b: &[u8], first: &mut [u8], second: &mut [u8], s: State) -> State {
-    if !record::is_formed(b) {
-        return s.judged(false);
-    }
     match record::op(b) {
         record::CASE => begun(first, second),
         record::FRESH | record::ADD => {
@@ -190,11 +194,6 @@ pub fn replay(b: &[u8], first: &mut [u8], second: &mut [u8], s: State) -> State 
             }
             changed(b, first, s.first_len, s)
         }
-        _ => looked(
-            b,
-            record::part(first, 0, s.first_len),
-            record::part(second, 0, s.second_len),
-            s,
-        ),
+        _ => looked_in(b, first, second, s),
     }
 }

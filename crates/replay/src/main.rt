@@ -1,6 +1,6 @@
-// Replays recorded answers through the public calls of `table` and `cursor`. Standard input is a list of records of 48 bytes: calls
-// with what an oracle answered to each, a plain model, the crate rusty-leveldb or LevelDB. The program makes each call and says
-// whether its answer is the recorded one.
+// Replays recorded answers through the public calls of `table` and `cursor`. Standard input is a list of records of 48 bytes
+// (host/RECORDS.md has the format): calls, with what an oracle answered to each, a plain model, the crate rusty-leveldb or LevelDB.
+// The program makes each call, compares its answer with the recorded one, and writes a line for each that differs.
 mod calls; // calls.rt: a record's call, and the state after it
 mod entry_moves; // entry_moves.rt: the moves of the entry cursor
 mod moves; // moves.rt: the moves of the visible cursor
@@ -13,31 +13,6 @@ use crate::state::State;
 
 // More records than a list has.
 const MOST: usize = 1000000;
-
-// What a record leaves: the state, and at the end of the list whether it was all there.
-struct Run {
-    state: State,
-    ended: bool,
-    whole: bool,
-}
-
-impl Run {
-    fn goes_on(state: State) -> Run {
-        Run {
-            state,
-            ended: false,
-            whole: false,
-        }
-    }
-
-    fn ends(state: State, whole: bool) -> Run {
-        Run {
-            state,
-            ended: true,
-            whole,
-        }
-    }
-}
 
 // Whether standard input has no byte left.
 fn is_over() -> bool {
@@ -54,57 +29,50 @@ fn ends_whole(b: &[u8], n: usize) -> bool {
     is_over()
 }
 
-// Replays the record with the number n, the first being 0, or ends the list.
-fn replayed(
-    b: &[u8],
-    first: &mut [u8],
-    second: &mut [u8],
-    s: State,
-    n: usize,
-    counts: &mut [u64; 10],
-) -> Run {
+// Replays the record with the number n, the first being 0. The end record ends the list.
+fn replayed(b: &[u8], first: &mut [u8], second: &mut [u8], s: State, n: usize) -> State {
     if record::op(b) == record::END {
-        return Run::ends(s, ends_whole(b, n));
+        return s.judged(ends_whole(b, n)).finished();
     }
-    let after = calls::replay(b, first, second, s);
-    tally::note(counts, record::oracle(b), n, after.right);
-    Run::goes_on(after)
+    calls::replay(b, first, second, s)
 }
 
-// Reads a record and replays it. A list that stops before its end record is not all there.
+// Reads a record and replays it. A list that stops before its end record is wrong there.
 fn read_one(
     first: &mut [u8],
     second: &mut [u8],
     s: State,
     n: usize,
     counts: &mut [u64; 10],
-) -> Run {
+) -> State {
     let mut b = [0u8; 48];
     if io::read_full(0, &mut b) < record::SIZE {
-        return Run::ends(s, false);
+        tally::note(counts, 0, n, false);
+        return s.finished();
     }
-    replayed(&b, first, second, s, n, counts)
+    let after = replayed(&b, first, second, s, n);
+    tally::note(counts, record::oracle(&b), n, after.right);
+    after
 }
 
-// Replays a list; answers whether it was all there.
-fn list(first: &mut [u8], second: &mut [u8], counts: &mut [u64; 10]) -> bool {
+// Replays a list. One with too many records is wrong where it is left.
+fn list(first: &mut [u8], second: &mut [u8], counts: &mut [u64; 10]) {
     let mut s = State::new();
     let mut n = 0;
     while n < MOST {
-        let r = read_one(first, second, s, n, counts);
-        s = r.state;
-        if r.ended {
-            return r.whole;
+        s = read_one(first, second, s, n, counts);
+        if s.ended {
+            return;
         }
         n += 1;
     }
-    false
+    tally::note(counts, 0, n, false);
 }
 
 fn main() {
     let mut first = [0u8; 4096];
     let mut second = [0u8; 4096];
     let mut counts = [0u64; 10];
-    let whole = list(&mut first, &mut second, &mut counts);
-    tally::show(&counts, whole);
+    list(&mut first, &mut second, &mut counts);
+    tally::show(&counts);
 }

@@ -45,6 +45,8 @@ pub const SET_ENTRY_CURSOR: u8 = 17;
 
 pub const END: u8 = 18;
 
+const UNKNOWN: u8 = 255;
+
 // A node or a number of looks that the oracle does not tell, and a place that it does not.
 const UNTOLD: usize = 65535;
 
@@ -82,8 +84,12 @@ pub fn number_of(s: &[u8]) -> u64 {
     v
 }
 
+// What a record asks for; nothing that there is where a length is above its limit.
 pub fn op(b: &[u8]) -> u8 {
-    byte(b, 0)
+    if is_formed(b) {
+        return byte(b, 0);
+    }
+    UNKNOWN
 }
 
 // Whether a record is about the second table.
@@ -140,7 +146,7 @@ pub fn value(b: &[u8]) -> &[u8] {
 }
 
 // Whether key, shown key and value have no more bytes than they have room.
-pub fn is_formed(b: &[u8]) -> bool {
+fn is_formed(b: &[u8]) -> bool {
     if byte(b, 16) > 8 {
         return false;
     }

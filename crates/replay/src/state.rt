@@ -49,6 +49,8 @@ pub fn refused_right(b: &[u8], number: u32, handed: Spot, back: Spot) -> bool {
 pub struct State {
     // Whether the last record's answer was the recorded one.
     pub right: bool,
+    // Whether the list has ended.
+    pub ended: bool,
     pub first_len: usize,
     pub second_len: usize,
     pub at: Spot,
@@ -61,6 +63,7 @@ impl State {
     pub fn new() -> State {
         State {
             right: true,
+            ended: false,
             first_len: 64,
             second_len: 64,
             at: Spot::new(0, 0),
@@ -106,6 +109,12 @@ impl State {
     // With a judgement of the last record.
     pub fn judged(mut self, right: bool) -> State {
         self.right = right;
+        self
+    }
+
+    // At the end of the list.
+    pub fn finished(mut self) -> State {
+        self.ended = true;
         self
     }
 }

@@ -62,22 +62,6 @@ fn line(right: u64, asked: u64, of: &[u8]) {
     io::write_all(1, of);
 }
 
-// Writes the last line.
-fn verdict(right: bool, whole: bool) {
-    if !whole {
-        io::write_all(
-            1,
-            b"NOT the whole list: its end record is missing or wrong\n",
-        );
-        return;
-    }
-    if !right {
-        io::write_all(1, b"NOT all as recorded\n");
-        return;
-    }
-    io::write_all(1, b"all as recorded\n");
-}
-
 // Writes the counts of each oracle.
 fn oracles(counts: &[u64; 10]) {
     line(counts[1], counts[0], b" set-up calls\n");
@@ -91,12 +75,15 @@ fn oracles(counts: &[u64; 10]) {
 }
 
 // Writes the counts, and last whether all is as recorded.
-pub fn show(counts: &[u64; 10], whole: bool) {
+pub fn show(counts: &[u64; 10]) {
     line(
         counts[9],
         counts[8],
-        b" records replayed as recorded, of these\n",
+        b" records are as recorded, of these\n",
     );
     oracles(counts);
-    verdict(counts[8] == counts[9], whole);
+    if counts[8] != counts[9] {
+        io::write_all(1, b"NOT ");
+    }
+    io::write_all(1, b"all as recorded\n");
 }

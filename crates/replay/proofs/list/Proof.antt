@@ -40,6 +40,9 @@ loop-less c = search needs
 loop-again : tie.Need-loop-again Inv-loop μ-loop
 loop-again c = search needs
 
+note-requires : tie.Need-note-requires Inv-loop μ-loop
+note-requires c κs = search needs
+
 same-length-3 : tie.Need-same-length-3 Inv-loop μ-loop
 same-length-3 c = search needs
 
@@ -64,6 +67,7 @@ list-spec =
     add-n
     loop-less
     loop-again
+    note-requires
     same-length-3
     same-length-4
     returns-2)
