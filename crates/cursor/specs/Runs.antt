@@ -70,7 +70,7 @@ pub data Run (s : ℕ) : Tables → Cursor → List Moment → Type 0 where
       → Moves v (u .first) (u .second) s c r → Shows u (cursorOf r) w
       → Run s u (cursorOf r) (record { tables = u; move = v; seen = record { refusal = refusalOf r; row = w } } ∷ ms)
 
--- the same entries up to s, and no two of them with the same key and number (in the one list, and so in the other)
+-- the same entries up to s, and no two different ones with the same key and number: in the one list, and so in the other (`agree-single`)
 pub record Alike (s : ℕ) (es fs : List Entry) : Type 0 where
   pub agree : Agree s es fs
   pub single : Single s es

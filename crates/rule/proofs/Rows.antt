@@ -158,3 +158,7 @@ agree-both s es es′ fs fs′ g h e l = (there es es′ fs fs′ (g e l .0) (h 
   where
     there : (is bs cs ds : List Entry) → (List·Memᴰ e is → List·Memᴰ e bs) → (List·Memᴰ e cs → List·Memᴰ e ds) → List·Memᴰ e (is ++ cs) → List·Memᴰ e (bs ++ ds)
     there is bs cs ds p q k = ⊎-elim (λ i. Memᴰ·append-left ds (p i)) (λ i. Memᴰ·append-right bs (q i)) (List·Memᴰ·append-cases is k)
+
+-- what is single in one list is so in every list with the same entries
+pub agree-single : (s : ℕ) (es fs : List Entry) → Agree s es fs → Single s es → Single s fs
+agree-single s es fs a u e f m n h p q = u e f ((a e h) .1 m) ((a f (omega (arith, h, q))) .1 n) h p q

@@ -38,6 +38,6 @@ together (es ∷ rest) = es ++ together rest
 abbrev pub Agree : ℕ → List Entry → List Entry → Type 0
 Agree s es fs = (e : Entry) → e .number ≤ s → List·Memᴰ e es ↔ List·Memᴰ e fs
 
--- up to the number s no key and number is there twice
+-- up to the number s two entries of one key and number are the same entry; that asks less than that no key and number is there twice
 abbrev pub Single : ℕ → List Entry → Type 0
 Single s es = (e f : Entry) → List·Memᴰ e es → List·Memᴰ f es → e .number ≤ s → e .key ≡ f .key → e .number ≡ f .number → e ≡ f
