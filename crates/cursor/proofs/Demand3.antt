@@ -87,13 +87,13 @@ same-lookup s es fs xs ys a b agree k r q g h = go (leb s maxNumber) refl (leb (
     alike : newest k s (held xs) ≡ newest k s (held ys)
     alike = same-newest k s (held xs) (held ys) agree-held (λ e f i j _. held-single xs x e f i j)
 
-    holds : (zs : List ℕ) → Sound zs → true ≡ headerHolds zs
-    holds zs z = sym (header-complete zs (z .header))
+    holds : (zs : List ℕ) → Sound zs → headerHolds zs ≡ true
+    holds zs z = header-complete zs (z .header)
 
     go : (m : Bool) → leb s maxNumber ≡ m → (n : Bool) → leb (length k) maxKey ≡ n → learnt xs r ≡ learnt ys q
     go true m true n = let i = leb-true s maxNumber m in let j = leb-true (length k) maxKey n in learnt-rule xs k s r x g i j ∙ ap learntOf alike ∙ sym (learnt-rule ys k s q y h i j)
-    go true m false n = let j = leb-false (length k) maxKey n in learnt-refused xs k s r longKey g (get-key xs k s (holds xs x) refl (sym m) refl j) ∙ sym (learnt-refused ys k s q longKey h (get-key ys k s (holds ys y) refl (sym m) refl j))
-    go false m n o = learnt-refused xs k s r badNumber g (get-number xs k s (holds xs x) refl (sym m) refl) ∙ sym (learnt-refused ys k s q badNumber h (get-number ys k s (holds ys y) refl (sym m) refl))
+    go true m false n = let j = leb-false (length k) maxKey n in learnt-refused xs k s r longKey g (get-key xs k s (holds xs x) (sym m) refl j) ∙ sym (learnt-refused ys k s q longKey h (get-key ys k s (holds ys y) (sym m) refl j))
+    go false m n o = learnt-refused xs k s r badNumber g (get-number xs k s (holds xs x) (sym m) refl) ∙ sym (learnt-refused ys k s q badNumber h (get-number ys k s (holds ys y) (sym m) refl))
 
 -- ---- what changes no row: a string of moves over tables that were filled, and then left as they are
 

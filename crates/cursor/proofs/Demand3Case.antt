@@ -30,7 +30,7 @@ use Rattle.table.proofs.Answers.{fresh-done, adds}
 use Rattle.table.proofs.Growth.{add-keeps, add-node, begun-sound, additions-grow, additions-held, filled-held}
 use Rattle.table.specs.declared.memtable.Added.the-variants as added
 use Rattle.cursor.specs.Places.{imageOf, place, entryAt, earlier, PlaceIn}
-use Rattle.cursor.specs.Moves.{keyGiven, startKey}
+use Rattle.cursor.specs.Moves.{keyGiven, startKey, Ahead}
 use Rattle.cursor.specs.Rows.{valueIn}
 use Rattle.cursor.specs.Runs.{Tables, entriesOf, Moment, seenIn, Run, begun, moved, Alike, Lockstep}
 use Rattle.cursor.specs.declared.places.Side.{Side}
@@ -39,6 +39,8 @@ use Rattle.cursor.specs.declared.places.Place.{Place}
 use Rattle.cursor.specs.declared.places.Cursor.{Cursor}
 use Rattle.cursor.specs.declared.places.Cursor.the-variants.{Nowhere, On}
 use Rattle.cursor.specs.declared.db_iter.Moved.the-variants.{To}
+use Rattle.image.proofs.Views.{view-accepted}
+use Rattle.cursor.proofs.Merging.{sound-of, known}
 use Rattle.cursor.proofs.Rows.{key-rule, value-rule, shows-key, shows-value}
 use Rattle.cursor.proofs.Lockstep.{Whole, askedOf, asked-whole, whole-grown, run-whole}
 use Rattle.cursor.proofs.Demand3.{same-rows}
@@ -231,13 +233,19 @@ module _ {t : Tables} {c : Cursor} {ms : List Moment} (m : Run 2 t c ms) {u : Ta
   whole = whole-grown t u c (run-whole m) i j
 
   goes : (v : Move) → askedOf 2 (keyGiven v) ≡ given tt → (ds : List Entry) → entriesOf u ≡ ds → (k : Maybe (List ℕ)) → startKey (u .first) (u .second) c ≡ k
-      → (p : Place) (e : Entry) → Stands u p e → target v 2 k ds ≡ some (e .key) → newest (e .key) 2 ds ≡ some e → e .kind ≡ valueKind
+      → (p : Place) (e : Entry) → Stands u p e → target v 2 k ds ≡ some (e .key) → newest (e .key) 2 ds ≡ some e → e .kind ≡ valueKind → Ahead v k (e .key)
       → All (λ d. fits (e .key) 2 d ≡ true → d .number < e .number) (earlier (p .table) (u .first))
       → Run 2 u (On p) (moment u v (e .key) (e .value) ∷ ms)
-  goes v o ds d k q p e s z n w l = moved u v (To (On p)) (some (record { key = e .key; value = e .value })) m i j (record {
+  goes v o ds d k q p e s z n w x l = moved u v (To (On p)) (some (record { key = e .key; value = e .value })) m i j (record {
     refused = λ r f. absurd (refused-given (sym f ∙ asked-whole u c whole 2 (keyGiven v) ∙ o));
     rule = λ _ _ _. rw (d, q, z) (record { inside = s .inside; newest-is = rw (d, s .entry) n; value-is = rw (s .entry) w; first = rw (s .entry) l });
-    range = λ _. s .inside;
+    lands = λ _. record {
+      inside = s .inside;
+      readable = view-accepted (imageOf (p .table) (u .first) (u .second)) (sound-of (u .first) (u .second) (whole .first) (whole .second) (p .table)) (p .node) (s .inside);
+      value-is = rw (s .entry) w;
+      number-most = rw (s .entry) (known (e .key) 2 ds (some e) n .1 .number);
+      ahead = rw (q, s .entry) x;
+    };
   }) (
     shows-key (u .first) (u .second) (On p) (e .key) (sym (key-rule (u .first) (u .second) (whole .first) (whole .second) (On p) (s .inside) ∙ ap (λ (d : Entry). d .key) (s .entry))),
     shows-value (u .first) (u .second) (On p) (e .value) (sym (value-rule (u .first) (u .second) (whole .first) (whole .second) (On p) (s .inside) ∙ ap valueIn (s .entry) ∙ rw w)),
@@ -259,17 +267,17 @@ whole-left = record { first = whole-begun .first; second = whole-begun .second; 
 left-run : Run 2 leftLater (On (place First 1)) (moment leftLater previous a x ∷ moment leftLater next b y ∷ moment left first a x ∷ [])
 unfolding compareKeys
 left-run =
-    let m = goes left-begun add-a add-b first refl (put a 1 x ∷ put b 2 y ∷ []) held-left none refl (place First 1) (put a 1 x) left-a refl refl refl (all-nil _) in
-    let n = goes m add-later growth.none next refl (put a 1 x ∷ gone a 7 ∷ put b 2 y ∷ []) held-later (some a) (ap (λ (e : Entry). some (e .key)) (later-a .entry)) (place Second 1) (put b 2 y) later-b refl refl refl
+    let m = goes left-begun add-a add-b first refl (put a 1 x ∷ put b 2 y ∷ []) held-left none refl (place First 1) (put a 1 x) left-a refl refl refl tt (all-nil _) in
+    let n = goes m add-later growth.none next refl (put a 1 x ∷ gone a 7 ∷ put b 2 y ∷ []) held-later (some a) (ap (λ (e : Entry). some (e .key)) (later-a .entry)) (place Second 1) (put b 2 y) later-b refl refl refl refl
     (rw held-f2 (all-cons (λ h. absurd (false≢true h)) (all-cons (λ h. absurd (false≢true h)) (all-nil _)))) in
-    goes n growth.none growth.none previous refl (put a 1 x ∷ gone a 7 ∷ put b 2 y ∷ []) held-later (some b) (ap (λ (e : Entry). some (e .key)) (later-b .entry)) (place First 1) (put a 1 x) later-a refl refl refl (all-nil _)
+    goes n growth.none growth.none previous refl (put a 1 x ∷ gone a 7 ∷ put b 2 y ∷ []) held-later (some b) (ap (λ (e : Entry). some (e .key)) (later-b .entry)) (place First 1) (put a 1 x) later-a refl refl refl refl (all-nil _)
 
 right-run : Run 2 right (On (place Second 2)) (moment right previous a x ∷ moment right next b y ∷ moment right first a x ∷ [])
 unfolding compareKeys
 right-run =
-    let m = goes right-begun growth.none add-both first refl (put b 2 y ∷ put a 1 x ∷ []) held-right none refl (place Second 2) (put a 1 x) right-a refl refl refl (nothing-first _) in
-    let n = goes m growth.none growth.none next refl (put b 2 y ∷ put a 1 x ∷ []) held-right (some a) (ap (λ (e : Entry). some (e .key)) (right-a .entry)) (place Second 1) (put b 2 y) right-b refl refl refl (nothing-first _) in
-    goes n growth.none growth.none previous refl (put b 2 y ∷ put a 1 x ∷ []) held-right (some b) (ap (λ (e : Entry). some (e .key)) (right-b .entry)) (place Second 2) (put a 1 x) right-a refl refl refl (nothing-first _)
+    let m = goes right-begun growth.none add-both first refl (put b 2 y ∷ put a 1 x ∷ []) held-right none refl (place Second 2) (put a 1 x) right-a refl refl refl tt (nothing-first _) in
+    let n = goes m growth.none growth.none next refl (put b 2 y ∷ put a 1 x ∷ []) held-right (some a) (ap (λ (e : Entry). some (e .key)) (right-a .entry)) (place Second 1) (put b 2 y) right-b refl refl refl refl (nothing-first _) in
+    goes n growth.none growth.none previous refl (put b 2 y ∷ put a 1 x ∷ []) held-right (some b) (ap (λ (e : Entry). some (e .key)) (right-b .entry)) (place Second 2) (put a 1 x) right-a refl refl refl refl (nothing-first _)
   where
     nothing-first : (P : Entry → Type 0) → All P (held p0)
     nothing-first P = rw held-none (all-nil P)

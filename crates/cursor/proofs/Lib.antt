@@ -10,3 +10,4 @@ pub mod Lockstep
 pub mod Demand3
 pub mod Demand3Case
 pub mod RuledOut
+pub mod Scans

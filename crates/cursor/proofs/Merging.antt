@@ -17,8 +17,9 @@ use Rattle.rule.proofs.Order.{neither-less}
 use Rattle.rule.proofs.Rows.{Newest as NewestOf, newest-is, newest-append, latest, fits-true}
 use Rattle.rule.proofs.Nearest.{least-append}
 use Rattle.image.specs.Sound.{Sound, held}
-use Rattle.image.specs.Meaning.{IsNode}
-use Rattle.image.specs.Cuts.{Cut, cmpOf, admits}
+use Rattle.image.specs.EntryMoves.{on}
+use Rattle.image.specs.Cuts.{Cut, cmpOf, admits, NearLands}
+use Rattle.image.specs.Newest.{NewestLands}
 use Rattle.image.proofs.Nearest.{way}
 use Rattle.image.proofs.Views.{key-shown}
 use Rattle.table.specs.Questions.{Nears, TellsNewest}
@@ -28,7 +29,7 @@ use Rattle.table.specs.declared.questions.NewestAt.{NewestAt}
 use Rattle.table.specs.declared.questions.NewestAt.the-variants as newestAt
 use Rattle.table.proofs.Laws.{number-told}
 use Rattle.cursor.specs.Places.{imageOf, earlier, all, place, entryAt, keyAt, numberAt, PlaceIn}
-use Rattle.cursor.specs.Merging.{metAt, metIn, nearerOf, soonerOf, MetIn, MeetingIn, NearestOver, NearestIs, versionIn, newerOf, NewestOver, NewestIs}
+use Rattle.cursor.specs.Merging.{metAt, metIn, nearerOf, soonerOf, MetIn, MeetingIn, NearestOver, NearestIs, versionIn, newerOf, kindOf, VersionIn, NewestOver, NewestIs}
 use Rattle.cursor.specs.declared.places.Side.{Side}
 use Rattle.cursor.specs.declared.places.Side.the-variants.{First, Second}
 use Rattle.cursor.specs.declared.places.Place.{Place}
@@ -61,9 +62,9 @@ module _ (f g : List ℕ) (c : Cut) (t : List ℕ) where
   met-flags First i h = record { in-first = λ _. h; in-second = λ z. absurd (false≢true z) }
   met-flags Second i h = record { in-first = λ z. absurd (false≢true z); in-second = λ _. h }
 
-  met-range : (side : Side) (i : ℕ) → IsNode (imageOf side f g) i → MeetingIn f g (metAt side i)
-  met-range First i n = record { inside = n; somewhere = inl refl }
-  met-range Second i n = record { inside = n; somewhere = inr refl }
+  met-lands : (side : Side) (i : ℕ) → NearLands (imageOf side f g) c t (on i) → MeetingIn f g c t (metAt side i)
+  met-lands First i (n, r, a) = record { reads = record { inside = n; readable = r }; admitted = a; somewhere = inl refl }
+  met-lands Second i (n, r, a) = record { reads = record { inside = n; readable = r }; admitted = a; somewhere = inr refl }
 
   met-place : (side : Side) (i : ℕ) → place side i ≡ metAt side i .place
   met-place First i = refl
@@ -76,11 +77,11 @@ module _ (f g : List ℕ) (c : Cut) (t : List ℕ) where
       go : (a : Hit) → Nears (imageOf side f g) c t a → NearestOver (held (imageOf side f g)) f g c t (metIn side a)
       go (hit.At i) n = record {
         rule = λ x y. subst (λ (p : Place). Least (cmpOf c) (admits c t) (held (imageOf side f g)) (some (keyAt f g p)) × MetIn f g (keyAt f g p) (metAt side i)) (met-place side i)
-            (let l : Least (cmpOf c) (admits c t) (held (imageOf side f g)) (some (keyAt f g (place side i))) = rw (key-told f g x y (place side i) (n .range)) (n .rule (sound-of f g x y side) .1) in (l, met-flags side i (l .0)));
-        range = met-range side i (n .range);
+            (let l : Least (cmpOf c) (admits c t) (held (imageOf side f g)) (some (keyAt f g (place side i))) = rw (key-told f g x y (place side i) (n .lands .0)) (n .rule (sound-of f g x y side) .1) in (l, met-flags side i (l .0)));
+        lands = met-lands side i (n .lands);
       }
-      go hit.Nothing n = record { rule = λ x y. n .rule (sound-of f g x y side); range = tt }
-      go hit.Damaged n = record { rule = λ x y. n .rule (sound-of f g x y side); range = tt }
+      go hit.Nothing n = record { rule = λ x y. n .rule (sound-of f g x y side); lands = tt }
+      go hit.Damaged n = record { rule = λ x y. n .rule (sound-of f g x y side); lands = tt }
 
   join : (a b : Maybe (List ℕ)) → Least (cmpOf c) (admits c t) (held f) a → Least (cmpOf c) (admits c t) (held g) b → Least (cmpOf c) (admits c t) (all f g) (sooner (cmpOf c) a b)
   join a b = least-append (cmpOf c) (way c) (admits c t) (held f) (held g) a b
@@ -96,11 +97,11 @@ module _ (f g : List ℕ) (c : Cut) (t : List ℕ) where
 
       go : (p : Bool) → isLess (cmpOf c l k) ≡ p → (q : Bool) → isLess (cmpOf c k l) ≡ q → (Sound f → Sound g → Least (cmpOf c) (admits c t) (all f g) (some (cond p l k)))
           → NearestIs f g c t (nearest.At (cond p y (cond q x (record { place = x .place; first = true; second = true }))))
-      go true e q d h = record { rule = λ u v. (h u v, b .rule u v .1); range = b .range }
-      go false e true d h = record { rule = λ u v. (h u v, a .rule u v .1); range = a .range }
+      go true e q d h = record { rule = λ u v. (h u v, b .rule u v .1); lands = b .lands }
+      go false e true d h = record { rule = λ u v. (h u v, a .rule u v .1); lands = a .lands }
       go false e false d h = record {
         rule = λ u v. (h u v, record { in-first = λ _. a .rule u v .0 .0; in-second = λ _. rw (neither-less (cmpOf c) (way c) k l d e) (b .rule u v .0 .0) });
-        range = record { inside = a .range .inside; somewhere = inl refl };
+        lands = record { reads = a .lands .reads; admitted = a .lands .admitted; somewhere = inl refl };
       }
 
   -- the sooner of both
@@ -108,12 +109,12 @@ module _ (f g : List ℕ) (c : Cut) (t : List ℕ) where
   sooner-over a b x y e = rw e (go a b x y)
     where
       go : (a b : Nearest) → NearestOver (held f) f g c t a → NearestOver (held g) f g c t b → NearestIs f g c t (soonerOf (keyAt f g) c a b)
-      go nearest.Damaged b x y = record { rule = λ u v. absurd (x .rule u v); range = tt }
-      go nearest.Nothing nearest.Damaged x y = record { rule = λ u v. absurd (y .rule u v); range = tt }
-      go nearest.Nothing nearest.Nothing x y = record { rule = λ u v. join none none (x .rule u v) (y .rule u v); range = tt }
-      go nearest.Nothing (nearest.At m) x y = record { rule = λ u v. (join none (some (keyAt f g (m .place))) (x .rule u v) (y .rule u v .0), y .rule u v .1); range = y .range }
-      go (nearest.At m) nearest.Damaged x y = record { rule = λ u v. absurd (y .rule u v); range = tt }
-      go (nearest.At m) nearest.Nothing x y = record { rule = λ u v. (join (some (keyAt f g (m .place))) none (x .rule u v .0) (y .rule u v), x .rule u v .1); range = x .range }
+      go nearest.Damaged b x y = record { rule = λ u v. absurd (x .rule u v); lands = tt }
+      go nearest.Nothing nearest.Damaged x y = record { rule = λ u v. absurd (y .rule u v); lands = tt }
+      go nearest.Nothing nearest.Nothing x y = record { rule = λ u v. join none none (x .rule u v) (y .rule u v); lands = tt }
+      go nearest.Nothing (nearest.At m) x y = record { rule = λ u v. (join none (some (keyAt f g (m .place))) (x .rule u v) (y .rule u v .0), y .rule u v .1); lands = y .lands }
+      go (nearest.At m) nearest.Damaged x y = record { rule = λ u v. absurd (y .rule u v); lands = tt }
+      go (nearest.At m) nearest.Nothing x y = record { rule = λ u v. (join (some (keyAt f g (m .place))) none (x .rule u v .0) (y .rule u v), x .rule u v .1); lands = x .lands }
       go (nearest.At m) (nearest.At n) x y = nearer-over m n x y
 
   pub nearest-both : {p q r : Nearest} (a b : Hit) → Nears f c t a → p ≡ metIn First a → Nears g c t b → q ≡ metIn Second b → r ≡ soonerOf (keyAt f g) c p q → NearestIs f g c t r
@@ -157,15 +158,18 @@ before-second : (f : List ℕ) (P : Entry → Type 0) (side : Side) → side ≡
 before-second f P side e h = rw e h
 
 module _ (f g : List ℕ) (k : List ℕ) (s : ℕ) where
+  version-lands : (side : Side) (i : ℕ) (b : Bool) → NewestLands (imageOf side f g) k s (kindOf b) i → VersionIn f g k s (record { place = place side i; value = b })
+  version-lands side i b n = record { reads = record { inside = n .node; readable = n .readable }; key-is = n .key-is; number-most = n .number-most; kind-is = n .kind-is }
+
   -- one table's answer
   version-over : (side : Side) {r : Newest} (a : NewestAt) → TellsNewest (imageOf side f g) k s a → r ≡ versionIn side a → NewestOver (held (imageOf side f g)) f g k s r
   version-over side a n e = rw e (go a n)
     where
       go : (a : NewestAt) → TellsNewest (imageOf side f g) k s a → NewestOver (held (imageOf side f g)) f g k s (versionIn side a)
-      go (newestAt.Value i) n = record { rule = λ x y. let o = n .rule (sound-of f g x y side) in (o .newest-is, o .kind-is); range = n .range }
-      go (newestAt.Deletion i) n = record { rule = λ x y. let o = n .rule (sound-of f g x y side) in (o .newest-is, o .kind-is); range = n .range }
-      go newestAt.Absent n = record { rule = λ x y. n .rule (sound-of f g x y side); range = tt }
-      go newestAt.Damaged n = record { rule = λ x y. n .rule (sound-of f g x y side); range = tt }
+      go (newestAt.Value i) n = record { rule = λ x y. let o = n .rule (sound-of f g x y side) in (o .newest-is, o .kind-is); lands = version-lands side i true (n .lands) }
+      go (newestAt.Deletion i) n = record { rule = λ x y. let o = n .rule (sound-of f g x y side) in (o .newest-is, o .kind-is); lands = version-lands side i false (n .lands) }
+      go newestAt.Absent n = record { rule = λ x y. n .rule (sound-of f g x y side); lands = tt }
+      go newestAt.Damaged n = record { rule = λ x y. n .rule (sound-of f g x y side); lands = tt }
 
   together : (a b : Maybe Entry) → newest k s (held f) ≡ a → newest k s (held g) ≡ b → newest k s (all f g) ≡ latest a b
   together a b x y = newest-append k s (held f) (held g) ∙ rw (x, y)
@@ -182,16 +186,16 @@ module _ (f g : List ℕ) (k : List ℕ) (s : ℕ) where
       n = numberAt f g (w .place)
 
       both : (x : Sound f) (y : Sound g) → newest k s (all f g) ≡ some (cond (ltb m n) (entryAt f g (w .place)) (entryAt f g (v .place)))
-      both x y = together (some (entryAt f g (v .place))) (some (entryAt f g (w .place))) (a .rule x y .0) (b .rule x y .0) ∙ rw (number-at-told f g x y (v .place) (a .range), number-at-told f g x y (w .place) (b .range))
+      both x y = together (some (entryAt f g (v .place))) (some (entryAt f g (w .place))) (a .rule x y .0) (b .rule x y .0) ∙ rw (number-at-told f g x y (v .place) (a .lands .reads .inside), number-at-told f g x y (w .place) (b .lands .reads .inside))
 
       go : (t : Bool) → ltb m n ≡ t → NewestIs f g k s (cond t (newer.At w) (newer.At v))
       go true e = record {
-        over = record { rule = λ x y. (rw e at (both x y), b .rule x y .1); range = b .range };
+        over = record { rule = λ x y. (rw e at (both x y), b .rule x y .1); lands = b .lands };
         first = λ x y. before-second f _ (w .place .table) sb (λ d i z. let h = known k s (held f) (some (entryAt f g (v .place))) (a .rule x y .0) .2 d i (fits-true k s d z) in
-            omega (arith, h, ltb-true m n e, number-at-told f g x y (v .place) (a .range), number-at-told f g x y (w .place) (b .range)));
+            omega (arith, h, ltb-true m n e, number-at-told f g x y (v .place) (a .lands .reads .inside), number-at-told f g x y (w .place) (b .lands .reads .inside)));
       }
       go false e = record {
-        over = record { rule = λ x y. (rw e at (both x y), a .rule x y .1); range = a .range };
+        over = record { rule = λ x y. (rw e at (both x y), a .rule x y .1); lands = a .lands };
         first = λ x y. rw sa (all-nil _);
       }
 
@@ -199,16 +203,16 @@ module _ (f g : List ℕ) (k : List ℕ) (s : ℕ) where
   newer-over a b x y p q e = rw e (go a b x y p q)
     where
       go : (a b : Newest) → NewestOver (held f) f g k s a → NewestOver (held g) f g k s b → OnSide First a → OnSide Second b → NewestIs f g k s (newerOf (numberAt f g) a b)
-      go newer.Damaged b x y p q = record { over = record { rule = λ u v. absurd (x .rule u v); range = tt }; first = λ u v. tt }
-      go newer.Nothing newer.Damaged x y p q = record { over = record { rule = λ u v. absurd (y .rule u v); range = tt }; first = λ u v. tt }
-      go newer.Nothing newer.Nothing x y p q = record { over = record { rule = λ u v. together none none (x .rule u v) (y .rule u v); range = tt }; first = λ u v. tt }
+      go newer.Damaged b x y p q = record { over = record { rule = λ u v. absurd (x .rule u v); lands = tt }; first = λ u v. tt }
+      go newer.Nothing newer.Damaged x y p q = record { over = record { rule = λ u v. absurd (y .rule u v); lands = tt }; first = λ u v. tt }
+      go newer.Nothing newer.Nothing x y p q = record { over = record { rule = λ u v. together none none (x .rule u v) (y .rule u v); lands = tt }; first = λ u v. tt }
       go newer.Nothing (newer.At w) x y p q = record {
-        over = record { rule = λ u v. (together none (some (entryAt f g (w .place))) (x .rule u v) (y .rule u v .0), y .rule u v .1); range = y .range };
+        over = record { rule = λ u v. (together none (some (entryAt f g (w .place))) (x .rule u v) (y .rule u v .0), y .rule u v .1); lands = y .lands };
         first = λ u v. before-second f _ (w .place .table) q (λ d i z. absurd (known k s (held f) none (x .rule u v) d i (fits-true k s d z)));
       }
-      go (newer.At w) newer.Damaged x y p q = record { over = record { rule = λ u v. absurd (y .rule u v); range = tt }; first = λ u v. tt }
+      go (newer.At w) newer.Damaged x y p q = record { over = record { rule = λ u v. absurd (y .rule u v); lands = tt }; first = λ u v. tt }
       go (newer.At w) newer.Nothing x y p q = record {
-        over = record { rule = λ u v. (together (some (entryAt f g (w .place))) none (x .rule u v .0) (y .rule u v), x .rule u v .1); range = x .range };
+        over = record { rule = λ u v. (together (some (entryAt f g (w .place))) none (x .rule u v .0) (y .rule u v), x .rule u v .1); lands = x .lands };
         first = λ u v. rw p (all-nil _);
       }
       go (newer.At v) (newer.At w) x y p q = newer-at v w x y p q

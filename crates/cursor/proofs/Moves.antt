@@ -8,18 +8,22 @@ use lib.ListN.{length}
 use lib.Dec.{leb}
 use borrow.Author.Tests.{not-true, not-false, le-leb, lt-leb}
 use Rattle.rule.specs.Lists.{Maybe, none, some}
+use Rattle.rule.specs.Order.{compareKeys, isLess}
 use Rattle.rule.specs.Moves.{Move, target}
+use Rattle.rule.proofs.Order.{less-true}
 use Rattle.rule.specs.Moves as rule
 use Rattle.image.specs.Limits.{maxKey, maxNumber}
 use Rattle.image.specs.Sound.{Sound, headerHolds}
 use Rattle.image.specs.EntryMoves.{on}
-use Rattle.image.specs.Cuts.{Cut}
+use Rattle.image.specs.Cuts.{Cut, admits}
 use Rattle.image.specs.Cuts as cut
 use Rattle.image.specs.Refusals as is
 use Rattle.image.specs.Refusals.{Answer, given, badImage, noNode}
 use Rattle.image.proofs.Refusals.{refused-given, demand-given}
 use Rattle.image.proofs.Views.{view-accepted}
+use Rattle.image.proofs.Landing.{key-read}
 use Rattle.table.specs.MemtableIter.{Tested}
+use Rattle.table.specs.declared.nodes.Frame.{Frame}
 use Rattle.table.specs.declared.refusals.Refusal.{Refusal}
 use Rattle.table.specs.declared.refusals.Refusal.the-variants as refusal
 use Rattle.table.specs.declared.memtable_iter.CursorTest.{CursorTest}
@@ -28,7 +32,7 @@ use Rattle.table.proofs.Laws.{in-table, first-behind, seek-behind, next-behind,
 use Rattle.cursor.proofs.Merging.{sound-of, key-told}
 use Rattle.cursor.specs.Places.{imageOf, all, entryAt, keyAt, CursorIn, HeadersHold, inside, refusalAt}
 use Rattle.cursor.specs.Walks.{bestOf, Ends, FoundIn, Walked}
-use Rattle.cursor.specs.Moves.{asked, testAs, keyGiven, startKey, movedOf, LeadsTo, MovedIn, Went, WentFrom, Moves}
+use Rattle.cursor.specs.Moves.{asked, testAs, keyGiven, startKey, movedOf, LeadsTo, Ahead, LandsIn, MovedIn, Went, WentFrom, Moves}
 use Rattle.cursor.specs.declared.places.Side.{Side}
 use Rattle.cursor.specs.declared.places.Side.the-variants.{First, Second}
 use Rattle.cursor.specs.declared.places.Place.{Place}
@@ -49,8 +53,8 @@ module _ (f g : List ℕ) (p : Place) where
   header-of h Second = h .second
 
   module _ {c : Cursor} (e : c ≡ On p) {t : CursorTest} (tested : Tested (imageOf (p .table) f g) (on (p .node)) t) where
-    pub inside-passed : t ≡ test.Passed → true ≡ inside f g c
-    inside-passed h = let (a, b) = rw h at tested in rw e (sym b)
+    pub inside-passed : {q : Frame} → t ≡ test.Passed q → true ≡ inside f g c
+    inside-passed h = let (a, b, _) = rw h at tested in rw e (sym b)
 
     pub inside-failed : HeadersHold f g → {q : Refusal} → t ≡ test.Failed q → false ≡ inside f g c
     inside-failed holds h = rw e (⊎-elim (λ w. absurd (true≢false (sym (header-of holds (p .table)) ∙ w .0))) (λ w. sym (w .1)) (rw h at tested))
@@ -106,7 +110,7 @@ module _ (f g : List ℕ) (s : ℕ) (c : Cursor) (t : List ℕ) (e : asked f g s
 -- ---- the walks
 
 pub went : (f g : List ℕ) (s : ℕ) (c : Cut) (t : List ℕ) (at : Cursor) (a : Found) {r : Moved} → Walked f g s c t a → r ≡ movedOf a at → Went f g s c t at r
-went f g s c t at a k e = rw e (record { rule = λ x y. same (bestOf f g s c t) a (k .rule x y); range = within a (k .range) })
+went f g s c t at a k e = rw e (record { rule = λ x y. same (bestOf f g s c t) a (k .rule x y); lands = within a (k .lands) })
   where
     same : (n : Maybe (List ℕ)) (a : Found) → Ends f g s n a → LeadsTo f g s n (movedOf a at)
     same none (found.At p) h = h
@@ -116,7 +120,7 @@ went f g s c t at a k e = rw e (record { rule = λ x y. same (bestOf f g s c t) 
     same (some l) found.Nothing h = h
     same (some l) found.Damaged h = h
 
-    within : (a : Found) → FoundIn f g a → MovedIn f g at (movedOf a at)
+    within : (a : Found) → FoundIn f g s c t a → MovedIn f g s c t at (movedOf a at)
     within (found.At p) h = h
     within found.Nothing h = h
     within found.Damaged h = (refl, refl)
@@ -124,19 +128,28 @@ went f g s c t at a k e = rw e (record { rule = λ x y. same (bestOf f g s c t) 
 module _ (f g : List ℕ) (s : ℕ) (c : Cut) (p : Place) (at : Cursor) {n : ℕ} (e : n ≡ refusalAt f g p) where
   -- on sound tables the node at a cursor is read
   pub from-hurt : (n ≡ 0 → ⊥) → WentFrom f g s c p at (Refused refusal.Damaged at)
-  from-hurt h = record { rule = λ x y i. absurd (h (e ∙ view-accepted (imageOf (p .table) f g) (sound-of f g x y (p .table)) (p .node) i)); range = (refl, refl) }
+  from-hurt h = record { rule = λ x y i. absurd (h (e ∙ view-accepted (imageOf (p .table) f g) (sound-of f g x y (p .table)) (p .node) i)); lands = (refl, refl) }
 
-  pub from-went : {k : List ℕ} → k ≡ keyAt f g p → (r : Moved) → Went f g s c k at r → WentFrom f g s c p at r
-  from-went d r w = record { rule = λ x y i. subst (λ (k : List ℕ). LeadsTo f g s (bestOf f g s c k) r) (d ∙ key-told f g x y p i) (w .rule x y); range = w .range }
+  pub from-went : n ≡ 0 → {k : List ℕ} → k ≡ keyAt f g p → (r : Moved) → Went f g s c k at r → WentFrom f g s c p at r
+  from-went z d r w = record {
+    rule = λ x y i. subst (λ (k : List ℕ). LeadsTo f g s (bestOf f g s c k) r) (d ∙ key-told f g x y p i) (w .rule x y);
+    lands = subst (λ (k : List ℕ). MovedIn f g s c k at r) (d ∙ key-read (imageOf (p .table) f g) (p .node) (sym e ∙ z)) (w .lands);
+  }
 
 -- ---- the moves
+
+-- what is behind the cut of a move lies onward
+lands-in : (v : Move) (f g : List ℕ) (s : ℕ) (d : Cut) (k : List ℕ) (c : Cursor) → ((l : List ℕ) → admits d k l ≡ true → Ahead v (startKey f g c) l) → (r : Moved) → MovedIn f g s d k c r → LandsIn v f g s c r
+lands-in v f g s d k c a (To Nowhere) m = tt
+lands-in v f g s d k c a (To (On p)) m = record { inside = m .reads .inside; readable = m .reads .readable; value-is = m .value-is; number-most = m .number-most; ahead = a (entryAt f g p .key) (m .admitted) }
+lands-in v f g s d k c a (Refused q e) m = m
 
 module _ (v : Move) (f g : List ℕ) (s : ℕ) (c : Cursor) {t : MoveTest} (e : testAs t ≡ asked f g s c (keyGiven v)) where
   pub move-refused : {q : Refusal} → t ≡ Failed q → Moves v f g s c (Refused q c)
   move-refused {q} h = record {
     refused = λ p d. (which (sym (ap testAs h) ∙ e ∙ d), refl);
     rule = λ d. absurd (refused-given (sym (ap testAs h) ∙ e ∙ d));
-    range = λ d. absurd (refused-given (sym (ap testAs h) ∙ e ∙ d));
+    lands = λ d. absurd (refused-given (sym (ap testAs h) ∙ e ∙ d));
   }
     where
       which : {p o : is.Refusal} → _≡_ {A = Answer {0} Unit} (is.refused o) (is.refused p) → o ≡ p
@@ -144,36 +157,36 @@ module _ (v : Move) (f g : List ℕ) (s : ℕ) (c : Cursor) {t : MoveTest} (e : 
 
   module _ (h : t ≡ Passed) where
     -- a move that leads to its target
-    leads : (r : Moved) → (Sound f → Sound g → CursorIn f g c → LeadsTo f g s (target v s (startKey f g c) (all f g)) r) → MovedIn f g c r → Moves v f g s c r
+    leads : (r : Moved) → (Sound f → Sound g → CursorIn f g c → LeadsTo f g s (target v s (startKey f g c) (all f g)) r) → LandsIn v f g s c r → Moves v f g s c r
     leads r a b = record {
       refused = λ q d. absurd (refused-given (sym d ∙ sym e ∙ ap testAs h));
       rule = λ d x y. a x y (asked-inside f g s c (keyGiven v) d);
-      range = λ d. b;
+      lands = λ d. b;
     }
 
-    pub move-went : (r : Moved) (d : Cut) (k : List ℕ) → target v s (startKey f g c) (all f g) ≡ bestOf f g s d k → Went f g s d k c r → Moves v f g s c r
-    move-went r d k q w = leads r (λ x y _. subst (λ (n : Maybe (List ℕ)). LeadsTo f g s n r) (sym q) (w .rule x y)) (w .range)
+    pub move-went : (r : Moved) (d : Cut) (k : List ℕ) → target v s (startKey f g c) (all f g) ≡ bestOf f g s d k → ((l : List ℕ) → admits d k l ≡ true → Ahead v (startKey f g c) l) → Went f g s d k c r → Moves v f g s c r
+    move-went r d k q a w = leads r (λ x y _. subst (λ (n : Maybe (List ℕ)). LeadsTo f g s n r) (sym q) (w .rule x y)) (lands-in v f g s d k c a r (w .lands))
 
-    pub move-from : (r : Moved) (d : Cut) {p : Place} → c ≡ On p → target v s (some (entryAt f g p .key)) (all f g) ≡ bestOf f g s d (entryAt f g p .key) → WentFrom f g s d p (On p) r → Moves v f g s c r
-    move-from r d {p} z q w = leads r (λ x y i. subst (λ (n : Maybe (List ℕ)). LeadsTo f g s n r) (sym q ∙ sym (ap (λ (o : Cursor). target v s (startKey f g o) (all f g)) z)) (w .rule x y (rw z at i))) (subst (λ (o : Cursor). MovedIn f g o r) (sym z) (w .range))
+    pub move-from : (r : Moved) (d : Cut) {p : Place} → c ≡ On p → target v s (some (entryAt f g p .key)) (all f g) ≡ bestOf f g s d (entryAt f g p .key) → ((l : List ℕ) → admits d (entryAt f g p .key) l ≡ true → Ahead v (some (entryAt f g p .key)) l) → WentFrom f g s d p (On p) r → Moves v f g s c r
+    move-from r d {p} z q a w = leads r (λ x y i. subst (λ (n : Maybe (List ℕ)). LeadsTo f g s n r) (sym q ∙ sym (ap (λ (o : Cursor). target v s (startKey f g o) (all f g)) z)) (w .rule x y (rw z at i))) (subst (λ (o : Cursor). LandsIn v f g s o r) (sym z) (lands-in v f g s d (entryAt f g p .key) (On p) a r (w .lands)))
 
 module _ (f g : List ℕ) (s : ℕ) (c : Cursor) {t : MoveTest} (h : t ≡ Passed) where
   pub move-first : testAs t ≡ asked f g s c [] → {k : List ℕ} {r : Moved} → Went f g s cut.all k c r → Moves rule.first f g s c r
-  move-first e {k} {r} w = move-went rule.first f g s c e h r cut.all k (first-behind s (all f g) k (startKey f g c)) w
+  move-first e {k} {r} w = move-went rule.first f g s c e h r cut.all k (first-behind s (all f g) k (startKey f g c)) (λ l _. tt) w
 
   pub move-seek : {k : List ℕ} → testAs t ≡ asked f g s c k → {r : Moved} → Went f g s cut.from k c r → Moves (rule.seek k) f g s c r
-  move-seek {k} e {r} w = move-went (rule.seek k) f g s c e h r cut.from k (seek-behind s (all f g) k (startKey f g c)) w
+  move-seek {k} e {r} w = move-went (rule.seek k) f g s c e h r cut.from k (seek-behind s (all f g) k (startKey f g c)) (λ l a. not-true (isLess (compareKeys l k)) a) w
 
   module _ (e : testAs t ≡ asked f g s c []) where
     pub move-next-nowhere : c ≡ Nowhere → {k : List ℕ} {r : Moved} → Went f g s cut.all k c r → Moves rule.next f g s c r
-    move-next-nowhere z {k} {r} w = move-went rule.next f g s c e h r cut.all k (ap (λ (o : Cursor). target rule.next s (startKey f g o) (all f g)) z ∙ next-nowhere s (all f g) k) w
+    move-next-nowhere z {k} {r} w = move-went rule.next f g s c e h r cut.all k (ap (λ (o : Cursor). target rule.next s (startKey f g o) (all f g)) z ∙ next-nowhere s (all f g) k) (λ l _. subst (λ (o : Cursor). Ahead rule.next (startKey f g o) l) (sym z) tt) w
 
     pub move-next : {p : Place} → c ≡ On p → {r : Moved} → WentFrom f g s cut.above p (On p) r → Moves rule.next f g s c r
-    move-next {p} z {r} w = move-from rule.next f g s c e h r cut.above z (next-behind s (all f g) (entryAt f g p .key)) w
+    move-next {p} z {r} w = move-from rule.next f g s c e h r cut.above z (next-behind s (all f g) (entryAt f g p .key)) (λ l a. less-true (compareKeys (entryAt f g p .key) l) a) w
 
     pub move-prev : {p : Place} → c ≡ On p → {r : Moved} → WentFrom f g s cut.below p (On p) r → Moves rule.previous f g s c r
-    move-prev {p} z {r} w = move-from rule.previous f g s c e h r cut.below z (previous-behind s (all f g) (entryAt f g p .key)) w
+    move-prev {p} z {r} w = move-from rule.previous f g s c e h r cut.below z (previous-behind s (all f g) (entryAt f g p .key)) (λ l a. less-true (compareKeys l (entryAt f g p .key)) a) w
 
     -- from nowhere there is no previous
     pub move-prev-nowhere : c ≡ Nowhere → Moves rule.previous f g s c (To Nowhere)
-    move-prev-nowhere z = record { refused = λ q d. absurd (refused-given (sym d ∙ sym e ∙ ap testAs h)); rule = λ d x y. rw z tt; range = λ d. tt }
+    move-prev-nowhere z = record { refused = λ q d. absurd (refused-given (sym d ∙ sym e ∙ ap testAs h)); rule = λ d x y. rw z tt; lands = λ d. tt }

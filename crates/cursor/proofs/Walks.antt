@@ -6,7 +6,6 @@ use mathlib.Core.Logic.{_⊎_, inl, inr, ⊎-elim}
 use mathlib.Core.List.{List}
 use mathlib.Core.Bool.{Bool, true, false}
 use lib.Dec.{ltb}
-use lib.ListN.{length}
 use borrow.Author.Tests.{lt-ltb, le-ltb, ltb-true, ltb-false, ne-eqb}
 use Rattle.rule.specs.Lists.{cond, Maybe, none, some, isSome}
 use Rattle.rule.specs.Order.{isLess}
@@ -18,9 +17,10 @@ use Rattle.rule.proofs.Nearest.{best-end, best-done, best-past, remaining-lengt
 use Rattle.image.specs.Sound.{Sound, held}
 use Rattle.image.specs.Cuts.{Cut, cmpOf, admits, pastOf}
 use Rattle.image.proofs.Nearest.{way, onward, past-way, past-admits}
+use Rattle.image.proofs.Landing.{key-read}
 use Rattle.table.specs.Questions.{nodesOf}
 use Rattle.table.proofs.Laws.{held-length, nodes-sound, past-past}
-use Rattle.cursor.specs.Places.{all, entryAt, keyAt}
+use Rattle.cursor.specs.Places.{imageOf, all, entryAt, keyAt, PlaceReads}
 use Rattle.cursor.specs.Merging.{NearestIs, NewestIs}
 use Rattle.cursor.specs.Walks.{StepRule, Stepped, cutFrom, keyFrom, tickOf, spentOf, bestOf, Ends, Walked}
 use Rattle.cursor.specs.declared.places.Place.{Place}
@@ -36,22 +36,26 @@ use Rattle.cursor.specs.declared.walk.Spent.the-variants.{Rest, Over}
 use Rattle.cursor.specs.declared.walk.Found.{Found}
 use Rattle.cursor.specs.declared.walk.Found.the-variants as found
 
+-- the key of a place that can be read is the one that its table shows
+pub key-read-at : (f g : List ℕ) (p : Place) → PlaceReads f g p → keyAt f g p ≡ entryAt f g p .key
+key-read-at f g p r = key-read (imageOf (p .table) f g) (p .node) (r .readable)
+
 -- ---- one turn
 
 module _ (f g : List ℕ) (s : ℕ) (c : Cut) (t : List ℕ) where
   pub step-damaged : NearestIs f g c t nearest.Damaged → Stepped f g s c t step.Damaged
-  step-damaged n = record { rule = n .rule; range = tt }
+  step-damaged n = record { rule = n .rule; lands = tt }
 
   pub step-end : NearestIs f g c t nearest.Nothing → Stepped f g s c t step.End
-  step-end n = record { rule = n .rule; range = tt }
+  step-end n = record { rule = n .rule; lands = tt }
 
   module _ {m : Meeting} (n : NearestIs f g c t (nearest.At m)) {k : List ℕ} (e : k ≡ keyAt f g (m .place)) where
     pub step-hurt : NewestIs f g k s newer.Damaged → Stepped f g s c t step.Damaged
-    step-hurt r = record { rule = r .over .rule; range = tt }
+    step-hurt r = record { rule = r .over .rule; lands = tt }
 
     -- the key has no row
     passes : (Sound f → Sound g → isSome (row k s (all f g)) ≡ false) → Stepped f g s c t (step.Pass m)
-    passes h = record { rule = λ x y. (n .rule x y .0, n .rule x y .1, rw (← e) (h x y)); range = n .range }
+    passes h = record { rule = λ x y. (n .rule x y .0, n .rule x y .1, rw (← e) (h x y)); lands = n .lands }
 
     pub step-absent : NewestIs f g k s newer.Nothing → Stepped f g s c t (step.Pass m)
     step-absent r = passes (λ x y. ap (λ (a : Maybe Entry). isSome (shown a)) (r .over .rule x y))
@@ -59,8 +63,8 @@ module _ (f g : List ℕ) (s : ℕ) (c : Cut) (t : List ℕ) where
     module _ {v : Version} (r : NewestIs f g k s (newer.At v)) where
       pub step-done : v .value ≡ true → Stepped f g s c t (step.Done (v .place))
       step-done h = record {
-        rule = λ x y. let o = r .over .rule x y in (k, rw e (n .rule x y .0), record { inside = r .over .range; newest-is = o .0; value-is = rw h at (o .1); first = r .first x y });
-        range = r .over .range;
+        rule = λ x y. let o = r .over .rule x y in (k, rw e (n .rule x y .0), record { inside = r .over .lands .reads .inside; newest-is = o .0; value-is = rw h at (o .1); first = r .first x y });
+        lands = let o = r .over .lands in record { reads = o .reads; admitted = rw (o .key-is, e, key-read-at f g (m .place) (n .lands .reads)) (n .lands .admitted); value-is = rw h at (o .kind-is); number-most = o .number-most };
       }
 
       pub step-deleted : v .value ≡ false → Stepped f g s c t (step.Pass m)
@@ -106,11 +110,13 @@ rest-means l m r e = go (ltb (l .first) (tickOf (m .first))) refl (ltb (l .secon
 
 -- ---- a key that is passed
 
--- d is where the walk has come to, c where it began: the cuts past a key are the same
+-- d is where the walk has come to, c where it began, and the cuts past a key are the same: what comes after a key behind the cut is behind it too
+pub behind-key : (c d : Cut) (u k : List ℕ) → pastOf d ≡ pastOf c → admits d u k ≡ true → (l : List ℕ) → admits (pastOf c) k l ≡ true → admits d u l ≡ true
+behind-key c d u k e a l h = onward d u k l a (ap (λ (q : List ℕ → Bool). q l) (sym (past-admits d k)) ∙ rw e h)
+
 module _ (es : List Entry) (c d : Cut) (u k : List ℕ) (e : pastOf d ≡ pastOf c) (least : Least (cmpOf d) (admits d u) es (some k)) where
-  -- what comes after the key was behind the cut before
   further : (l : List ℕ) → admits (pastOf c) k l ≡ true → admits d u l ≡ true
-  further l h = onward d u k l (least .1) (ap (λ (q : List ℕ → Bool). q l) (sym (past-admits d k)) ∙ rw e h)
+  further = behind-key c d u k e (least .1)
 
   -- without a row the search goes on behind it
   best-on : (s : ℕ) → isSome (row k s es) ≡ false → best (λ a b. isLess (cmpOf d a b)) (admits d u) s es es ≡ best (λ a b. isLess (cmpOf (pastOf c) a b)) (admits (pastOf c) k) s es es
@@ -126,11 +132,13 @@ module _ (es : List Entry) (c d : Cut) (u k : List ℕ) (e : pastOf d ≡ pastOf
 
 -- ---- between turns
 
--- the key that is looked for is the first with a row behind the cut where the walk has come to, and the counts last
+-- the key that is looked for is the first with a row behind the cut where the walk has come to, and the counts last; on any bytes, what is behind
+-- that cut is behind the one where it began
 pub record Kept (f g : List ℕ) (s : ℕ) (c : Cut) (t : List ℕ) (at : Reached) (left : Left) : Type 0 where
   pub same : Sound f → Sound g → bestOf f g s c t ≡ bestOf f g s (cutFrom c at) (keyFrom f g t at)
   pub first : Sound f → Sound g → remaining (admits (cutFrom c at) (keyFrom f g t at)) (held f) ≤ left .first
   pub second : Sound f → Sound g → remaining (admits (cutFrom c at) (keyFrom f g t at)) (held g) ≤ left .second
+  pub behind : (k : List ℕ) → admits (cutFrom c at) (keyFrom f g t at) k ≡ true → admits c t k ≡ true
 
 -- the walk goes on, with less left
 pub record Going (f g : List ℕ) (s : ℕ) (c : Cut) (t : List ℕ) (at : Reached) (left rest : Left) : Type 0 where
@@ -149,6 +157,7 @@ module _ (f g : List ℕ) (s : ℕ) (c : Cut) (t : List ℕ) where
     same = λ x y. refl;
     first = λ x y. omega (arith, remaining-length (admits c t) (held f), held-length f, nodes-sound f x);
     second = λ x y. omega (arith, remaining-length (admits c t) (held g), held-length g, nodes-sound g y);
+    behind = λ k h. h;
   }
 
   module _ {at : Reached} {left : Left} (k : Kept f g s c t at left) where
@@ -156,16 +165,16 @@ module _ (f g : List ℕ) (s : ℕ) (c : Cut) (t : List ℕ) where
     ends a b e r h = subst (λ (n : Maybe (List ℕ)). Ends f g s n r) (sym e) h
 
     pub kept-damaged : Stepped f g s (cutFrom c at) (keyFrom f g t at) step.Damaged → Walked f g s c t found.Damaged
-    kept-damaged r = record { rule = λ x y. absurd (r .rule x y); range = tt }
+    kept-damaged r = record { rule = λ x y. absurd (r .rule x y); lands = tt }
 
     pub kept-end : Stepped f g s (cutFrom c at) (keyFrom f g t at) step.End → Walked f g s c t found.Nothing
     kept-end r = record {
       rule = λ x y. ends (bestOf f g s c t) none (k .same x y ∙ best-end (cmpOf (cutFrom c at)) (way (cutFrom c at)) s (all f g) (admits (cutFrom c at) (keyFrom f g t at)) (r .rule x y)) found.Nothing tt;
-      range = tt;
+      lands = tt;
     }
 
     pub kept-done : {p : Place} → Stepped f g s (cutFrom c at) (keyFrom f g t at) (step.Done p) → Walked f g s c t (found.At p)
-    kept-done {p} r = record { rule = λ x y. go (cutFrom c at) (keyFrom f g t at) (r .rule x y) (k .same x y); range = r .range }
+    kept-done {p} r = record { rule = λ x y. go (cutFrom c at) (keyFrom f g t at) (r .rule x y) (k .same x y); lands = let o = r .lands in record { reads = o .reads; admitted = k .behind (entryAt f g p .key) (o .admitted); value-is = o .value-is; number-most = o .number-most } }
       where
         go : (d : Cut) (u : List ℕ) → StepRule f g s d u (step.Done p) → bestOf f g s c t ≡ bestOf f g s d u → Ends f g s (bestOf f g s c t) (found.At p)
         go d u (l, h, v) e = ends (bestOf f g s c t) (some l) (e ∙ best-done (cmpOf d) (way d) s (all f g) (admits d u) l h (rw (v .newest-is, v .value-is))) (found.At p) v
@@ -178,7 +187,7 @@ module _ (f g : List ℕ) (s : ℕ) (c : Cut) (t : List ℕ) where
       pub kept-over : spentOf left m ≡ Over → Walked f g s c t found.Damaged
       kept-over h = record {
         rule = λ x y. absurd (⊎-elim (λ z. omega (arith, z, k .first x y, less-of f (m .first) x y (r .rule x y .1 .in-first))) (λ z. omega (arith, z, k .second x y, less-of g (m .second) x y (r .rule x y .1 .in-second))) (over-means left m h));
-        range = tt;
+        lands = tt;
       }
 
       pub kept-on : {rest : Left} → spentOf left m ≡ Rest rest → Going f g s c t (Past (m .place)) left rest
@@ -187,6 +196,7 @@ module _ (f g : List ℕ) (s : ℕ) (c : Cut) (t : List ℕ) where
           same = λ x y. k .same x y ∙ best-on (all f g) c (cutFrom c at) (keyFrom f g t at) (keyAt f g (m .place)) (past-from c at) (r .rule x y .0) s (r .rule x y .2);
           first = λ x y. omega (arith, p, k .first x y, less-of f (m .first) x y (r .rule x y .1 .in-first));
           second = λ x y. omega (arith, q, k .second x y, less-of g (m .second) x y (r .rule x y .1 .in-second));
+          behind = λ l z. k .behind l (behind-key c (cutFrom c at) (keyFrom f g t at) (keyAt f g (m .place)) (past-from c at) (rw (key-read-at f g (m .place) (r .lands .reads)) (r .lands .admitted)) l z);
         };
-        fewer = ⊎-elim (λ z. let n : tickOf (m .first) ≡ 1 = rw z in omega (arith, p, q, n)) (λ z. let n : tickOf (m .second) ≡ 1 = rw z in omega (arith, p, q, n)) (r .range .somewhere);
+        fewer = ⊎-elim (λ z. let n : tickOf (m .first) ≡ 1 = rw z in omega (arith, p, q, n)) (λ z. let n : tickOf (m .second) ≡ 1 = rw z in omega (arith, p, q, n)) (r .lands .somewhere);
       }

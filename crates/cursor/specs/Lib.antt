@@ -6,3 +6,4 @@ pub mod Rows
 pub mod RowSpans
 pub mod Pairs
 pub mod Runs
+pub mod Scans

@@ -1,5 +1,5 @@
 -- What the two tables answer together: the fold of two answers, and what it means.
-use Prim.Native.Nat.{ℕ, _<_}
+use Prim.Native.Nat.{ℕ, _<_, _≤_}
 use mathlib.Core.Path.{_≡_}
 use mathlib.Core.Logic.{_⊎_}
 use mathlib.Core.List.{List}
@@ -16,13 +16,14 @@ use Rattle.table.specs.declared.questions.Hit.{Hit}
 use Rattle.table.specs.declared.questions.Hit.the-variants as hit
 use Rattle.table.specs.declared.questions.NewestAt.{NewestAt}
 use Rattle.table.specs.declared.questions.NewestAt.the-variants as newestAt
-use Rattle.cursor.specs.Places.{all, earlier, place, entryAt, keyAt, PlaceIn}
+use Rattle.cursor.specs.Places.{all, earlier, place, entryAt, keyAt, PlaceReads}
 use Rattle.cursor.specs.declared.places.Side.{Side}
 use Rattle.cursor.specs.declared.places.Side.the-variants.{First, Second}
 use Rattle.cursor.specs.declared.places.Place.{Place}
 use Rattle.cursor.specs.declared.merging_iter.Meeting.{Meeting}
 use Rattle.cursor.specs.declared.merging_iter.Nearest.{Nearest}
 use Rattle.cursor.specs.declared.merging_iter.Nearest.the-variants as nearest
+use Rattle.cursor.specs.declared.merging_iter.Version.{Version}
 use Rattle.cursor.specs.declared.merging_iter.Newest.{Newest}
 use Rattle.cursor.specs.declared.merging_iter.Newest.the-variants as newer
 
@@ -62,21 +63,22 @@ NearestAmong es f g c t (nearest.At m) = Least (cmpOf c) (admits c t) es (some (
 NearestAmong es f g c t nearest.Nothing = Least (cmpOf c) (admits c t) es none
 NearestAmong es f g c t nearest.Damaged = ⊥
 
--- the place names a node, and the key is met in one table at least
-pub record MeetingIn (f g : List ℕ) (m : Meeting) : Type 0 where
-  pub inside : PlaceIn f g (m .place)
+-- on any bytes: the place can be read whole, the cut admits its key, and the key is met in one table at least
+pub record MeetingIn (f g : List ℕ) (c : Cut) (t : List ℕ) (m : Meeting) : Type 0 where
+  pub reads : PlaceReads f g (m .place)
+  pub admitted : admits c t (entryAt f g (m .place) .key) ≡ true
   pub somewhere : (m .first ≡ true) ⊎ (m .second ≡ true)
 
--- a node of its table, and met in one table at least
-abbrev pub NearestIn : List ℕ → List ℕ → Nearest → Type 0
-NearestIn f g (nearest.At m) = MeetingIn f g m
-NearestIn f g nearest.Nothing = Unit
-NearestIn f g nearest.Damaged = Unit
+-- the same of an answer
+abbrev pub NearestIn : List ℕ → List ℕ → Cut → List ℕ → Nearest → Type 0
+NearestIn f g c t (nearest.At m) = MeetingIn f g c t m
+NearestIn f g c t nearest.Nothing = Unit
+NearestIn f g c t nearest.Damaged = Unit
 
 -- what is promised of an answer about some of the entries
 pub record NearestOver (es : List Entry) (f g : List ℕ) (c : Cut) (t : List ℕ) (r : Nearest) : Type 0 where
   pub rule : Sound f → Sound g → NearestAmong es f g c t r
-  pub range : NearestIn f g r
+  pub lands : NearestIn f g c t r
 
 -- and about all of them
 abbrev pub NearestIs : List ℕ → List ℕ → Cut → List ℕ → Nearest → Type 0
@@ -110,11 +112,18 @@ NewestAmong es f g k s (newer.At v) = (newest k s es ≡ some (entryAt f g (v .p
 NewestAmong es f g k s newer.Nothing = newest k s es ≡ none
 NewestAmong es f g k s newer.Damaged = ⊥
 
--- a node of its table
-abbrev pub NewestIn : List ℕ → List ℕ → Newest → Type 0
-NewestIn f g (newer.At v) = PlaceIn f g (v .place)
-NewestIn f g newer.Nothing = Unit
-NewestIn f g newer.Damaged = Unit
+-- on any bytes: the place can be read whole, and has an entry of k up to s, of the type that is told
+pub record VersionIn (f g : List ℕ) (k : List ℕ) (s : ℕ) (v : Version) : Type 0 where
+  pub reads : PlaceReads f g (v .place)
+  pub key-is : entryAt f g (v .place) .key ≡ k
+  pub number-most : entryAt f g (v .place) .number ≤ s
+  pub kind-is : entryAt f g (v .place) .kind ≡ kindOf (v .value)
+
+-- the same of an answer
+abbrev pub NewestIn : List ℕ → List ℕ → List ℕ → ℕ → Newest → Type 0
+NewestIn f g k s (newer.At v) = VersionIn f g k s v
+NewestIn f g k s newer.Nothing = Unit
+NewestIn f g k s newer.Damaged = Unit
 
 -- no table before that of the place has an entry of k up to s that is as new
 abbrev pub FirstAsNew : List ℕ → List ℕ → ℕ → List ℕ → Place → Type 0
@@ -129,7 +138,7 @@ NewestFirst f g k s newer.Damaged = Unit
 -- what is promised of an answer about some of the entries
 pub record NewestOver (es : List Entry) (f g : List ℕ) (k : List ℕ) (s : ℕ) (r : Newest) : Type 0 where
   pub rule : Sound f → Sound g → NewestAmong es f g k s r
-  pub range : NewestIn f g r
+  pub lands : NewestIn f g k s r
 
 -- and about all of them
 pub record NewestIs (f g : List ℕ) (k : List ℕ) (s : ℕ) (r : Newest) : Type 0 where

@@ -1,11 +1,15 @@
 -- What the moves of the visible cursor promise: `refused`, the refusal of the arguments, `rule`, where they lead on sound tables,
--- and `range`, what is left of it on any bytes: damage with the cursor as it was handed, or a cursor that names a node.
-use Prim.Native.Nat.{ℕ}
+-- and `lands`, where they end on any bytes: on a place that can be read whole, with a value up to the snapshot, onward of where the move
+-- started; or nowhere; or damage with the cursor as it was handed. So no scan goes round.
+use Prim.Native.Nat.{ℕ, _≤_}
 use mathlib.Core.Path.{_≡_}
 use mathlib.Core.List.{List, []}
+use mathlib.Core.Bool.{false}
 use lib.ListN.{length}
 use lib.Dec.{leb}
 use Rattle.rule.specs.Lists.{Maybe, none, some}
+use Rattle.rule.specs.Order.{less, compareKeys, isLess}
+use Rattle.rule.specs.Entries.{valueKind}
 use Rattle.rule.specs.Moves.{Move, first, seek, next, previous, target}
 use Rattle.image.specs.Limits.{maxKey, maxNumber}
 use Rattle.image.specs.Sound.{Sound, headerHolds}
@@ -14,8 +18,8 @@ use Rattle.image.specs.Refusals as is
 use Rattle.image.specs.Refusals.{Answer, refused, given, demand, badImage, noNode, badNumber, longKey, damaged}
 use Rattle.table.specs.Refusals.{refusalIs}
 use Rattle.table.specs.declared.refusals.Refusal.the-variants as refusal
-use Rattle.cursor.specs.Places.{all, entryAt, PlaceIn, CursorIn, inside}
-use Rattle.cursor.specs.Walks.{Gives, bestOf}
+use Rattle.cursor.specs.Places.{all, entryAt, refusalAt, PlaceIn, inside}
+use Rattle.cursor.specs.Walks.{Gives, bestOf, LandsOn}
 use Rattle.cursor.specs.declared.places.Place.{Place}
 use Rattle.cursor.specs.declared.places.Cursor.{Cursor}
 use Rattle.cursor.specs.declared.places.Cursor.the-variants.{Nowhere, On}
@@ -77,23 +81,51 @@ abbrev pub RefusedWith : is.Refusal → Cursor → Moved → Type 0
 RefusedWith q c (To d) = ⊥
 RefusedWith q c (Refused p d) = (refusalIs p ≡ q) × (d ≡ c)
 
--- a cursor in range, or damage with the cursor that was handed
-abbrev pub MovedIn : List ℕ → List ℕ → Cursor → Moved → Type 0
-MovedIn f g c (To d) = CursorIn f g d
-MovedIn f g c (Refused q d) = RefusedWith damaged c (Refused q d)
+-- ---- on any bytes
+
+-- the key k lies onward of the one that a move started from; previous ends nowhere when it started nowhere
+abbrev pub Ahead : Move → Maybe (List ℕ) → List ℕ → Type 0
+Ahead first start k = Unit
+Ahead (seek t) start k = isLess (compareKeys k t) ≡ false
+Ahead next none k = Unit
+Ahead next (some t) k = compareKeys t k ≡ less
+Ahead previous none k = ⊥
+Ahead previous (some t) k = compareKeys k t ≡ less
+
+-- where a move may end: on a place that can be read whole, has a value numbered up to the snapshot, and lies onward
+pub record Lands (v : Move) (f g : List ℕ) (s : ℕ) (c : Cursor) (p : Place) : Type 0 where
+  pub inside : PlaceIn f g p
+  pub readable : refusalAt f g p ≡ 0
+  pub value-is : entryAt f g p .kind ≡ valueKind
+  pub number-most : entryAt f g p .number ≤ s
+  pub ahead : Ahead v (startKey f g c) (entryAt f g p .key)
+
+-- there, or nowhere, or damage with the cursor that was handed
+abbrev pub LandsIn : Move → List ℕ → List ℕ → ℕ → Cursor → Moved → Type 0
+LandsIn v f g s c (To Nowhere) = Unit
+LandsIn v f g s c (To (On p)) = Lands v f g s c p
+LandsIn v f g s c (Refused q d) = RefusedWith damaged c (Refused q d)
+
+-- where a walk behind a cut may end
+abbrev pub MovedIn : List ℕ → List ℕ → ℕ → Cut → List ℕ → Cursor → Moved → Type 0
+MovedIn f g s c t at (To Nowhere) = Unit
+MovedIn f g s c t at (To (On p)) = LandsOn f g s c t p
+MovedIn f g s c t at (Refused q d) = RefusedWith damaged at (Refused q d)
+
+-- ---- the promises
 
 -- what a walk behind a cut comes to
 pub record Went (f g : List ℕ) (s : ℕ) (c : Cut) (t : List ℕ) (at : Cursor) (r : Moved) : Type 0 where
   pub rule : Sound f → Sound g → LeadsTo f g s (bestOf f g s c t) r
-  pub range : MovedIn f g at r
+  pub lands : MovedIn f g s c t at r
 
 -- and behind a cut at the key of a place
 pub record WentFrom (f g : List ℕ) (s : ℕ) (c : Cut) (p : Place) (at : Cursor) (r : Moved) : Type 0 where
   pub rule : Sound f → Sound g → PlaceIn f g p → LeadsTo f g s (bestOf f g s c (entryAt f g p .key)) r
-  pub range : MovedIn f g at r
+  pub lands : MovedIn f g s c (entryAt f g p .key) at r
 
 -- what a move promises
 pub record Moves (v : Move) (f g : List ℕ) (s : ℕ) (c : Cursor) (r : Moved) : Type 0 where
   pub refused : (q : is.Refusal) → asked f g s c (keyGiven v) ≡ is.refused q → RefusedWith q c r
   pub rule : asked f g s c (keyGiven v) ≡ given tt → Sound f → Sound g → LeadsTo f g s (target v s (startKey f g c) (all f g)) r
-  pub range : asked f g s c (keyGiven v) ≡ given tt → MovedIn f g c r
+  pub lands : asked f g s c (keyGiven v) ≡ given tt → LandsIn v f g s c r

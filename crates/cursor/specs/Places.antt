@@ -67,6 +67,11 @@ pub record HeadersHold (f g : List ℕ) : Type 0 where
 abbrev pub refusalAt : List ℕ → List ℕ → Place → ℕ
 refusalAt f g p = viewRefusal (imageOf (p .table) f g) (on (p .node))
 
+-- the place names a node of its table that can be read whole: its views are not refused
+pub record PlaceReads (f g : List ℕ) (p : Place) : Type 0 where
+  pub inside : PlaceIn f g p
+  pub readable : refusalAt f g p ≡ 0
+
 -- the cursor names a node of its table, or none
 abbrev pub inside : List ℕ → List ℕ → Cursor → Bool
 inside f g Nowhere = true

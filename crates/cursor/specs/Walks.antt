@@ -1,5 +1,5 @@
 -- What a walk keeps and where it ends.
-use Prim.Native.Nat.{ℕ, _-_}
+use Prim.Native.Nat.{ℕ, _-_, _≤_}
 use mathlib.Core.Path.{_≡_}
 use mathlib.Core.List.{List}
 use mathlib.Core.Bool.{Bool, true, false}
@@ -12,7 +12,7 @@ use Rattle.rule.specs.Moves.{best}
 use Rattle.rule.specs.Nearest.{Least}
 use Rattle.image.specs.Sound.{Sound}
 use Rattle.image.specs.Cuts.{Cut, cmpOf, admits, pastOf}
-use Rattle.cursor.specs.Places.{all, entryAt, keyAt, PlaceIn}
+use Rattle.cursor.specs.Places.{all, entryAt, keyAt, PlaceIn, PlaceReads}
 use Rattle.cursor.specs.Merging.{MetIn, MeetingIn, FirstAsNew}
 use Rattle.cursor.specs.declared.places.Place.{Place}
 use Rattle.cursor.specs.declared.merging_iter.Meeting.{Meeting}
@@ -33,6 +33,13 @@ pub record Gives (f g : List ℕ) (s : ℕ) (k : List ℕ) (p : Place) : Type 0 
   pub value-is : entryAt f g p .kind ≡ valueKind
   pub first : FirstAsNew f g s k p
 
+-- on any bytes: p can be read whole, the cut admits its key, and its entry is a value up to s
+pub record LandsOn (f g : List ℕ) (s : ℕ) (c : Cut) (t : List ℕ) (p : Place) : Type 0 where
+  pub reads : PlaceReads f g p
+  pub admitted : admits c t (entryAt f g p .key) ≡ true
+  pub value-is : entryAt f g p .kind ≡ valueKind
+  pub number-most : entryAt f g p .number ≤ s
+
 -- ---- a turn
 
 -- of the keys behind the cut, the first: it has a row, or none; or there is no such key
@@ -42,17 +49,17 @@ StepRule f g s c t (step.Pass m) = Least (cmpOf c) (admits c t) (all f g) (some 
 StepRule f g s c t step.End = Least (cmpOf c) (admits c t) (all f g) none
 StepRule f g s c t step.Damaged = ⊥
 
--- what it names is a node of its table
-abbrev pub StepIn : List ℕ → List ℕ → Step → Type 0
-StepIn f g (step.Done p) = PlaceIn f g p
-StepIn f g (step.Pass m) = MeetingIn f g m
-StepIn f g step.End = Unit
-StepIn f g step.Damaged = Unit
+-- what it names on any bytes
+abbrev pub StepIn : List ℕ → List ℕ → ℕ → Cut → List ℕ → Step → Type 0
+StepIn f g s c t (step.Done p) = LandsOn f g s c t p
+StepIn f g s c t (step.Pass m) = MeetingIn f g c t m
+StepIn f g s c t step.End = Unit
+StepIn f g s c t step.Damaged = Unit
 
 -- what a turn promises
 pub record Stepped (f g : List ℕ) (s : ℕ) (c : Cut) (t : List ℕ) (r : Step) : Type 0 where
   pub rule : Sound f → Sound g → StepRule f g s c t r
-  pub range : StepIn f g r
+  pub lands : StepIn f g s c t r
 
 -- the cut where a walk has come to
 abbrev pub cutFrom : Cut → Reached → Cut
@@ -90,13 +97,13 @@ Ends f g s (some k) (found.At p) = Gives f g s k p
 Ends f g s (some k) found.Nothing = ⊥
 Ends f g s (some k) found.Damaged = ⊥
 
--- a place that names a node of its table
-abbrev pub FoundIn : List ℕ → List ℕ → Found → Type 0
-FoundIn f g (found.At p) = PlaceIn f g p
-FoundIn f g found.Nothing = Unit
-FoundIn f g found.Damaged = Unit
+-- where it ends on any bytes
+abbrev pub FoundIn : List ℕ → List ℕ → ℕ → Cut → List ℕ → Found → Type 0
+FoundIn f g s c t (found.At p) = LandsOn f g s c t p
+FoundIn f g s c t found.Nothing = Unit
+FoundIn f g s c t found.Damaged = Unit
 
 -- what a walk promises
 pub record Walked (f g : List ℕ) (s : ℕ) (c : Cut) (t : List ℕ) (r : Found) : Type 0 where
   pub rule : Sound f → Sound g → Ends f g s (bestOf f g s c t) r
-  pub range : FoundIn f g r
+  pub lands : FoundIn f g s c t r

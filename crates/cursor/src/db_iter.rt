@@ -51,7 +51,7 @@ fn is_inside(first: &[u8], second: &[u8], at: Cursor) -> bool
         return true;
     };
     match test_place(first, second, p) {
-        CursorTest::Passed => true,
+        CursorTest::Passed(_) => true,
         CursorTest::Failed(_) => false,
     }
 }

@@ -4,7 +4,7 @@ use native.Mathlib.Omega.{arith}
 use mathlib.Core.Path.{_≡_, refl}
 use mathlib.Core.List.{List, [], _∷_}
 use mathlib.Core.Bool.{Bool, true, false}
-use lib.ListN.{replicate}
+use lib.ListN.{set, replicate}
 use lib.Dec.{ltb}
 use borrow.Author.Tests.{ltb-true}
 use Rattle.rule.specs.Lists.{both, All}
@@ -16,7 +16,7 @@ use Rattle.image.specs.Entries.{encode, lenAt, keyedAt, restAt}
 use Rattle.image.specs.Nodes.{leadAt, heightOf, entryOf, linkOf}
 use Rattle.image.specs.Sound.{headerHolds, Sound, held}
 use Rattle.image.specs.Search.{find, look}
-use Rattle.image.specs.Refusals.{duplicate, noNode, refused, given}
+use Rattle.image.specs.Refusals.{duplicate, damaged, noNode, refused, given}
 use Rattle.image.specs.Fresh.{freshImage}
 use Rattle.image.specs.Add.{nodeWritten, written, add, afterwards}
 use Rattle.image.specs.Lookup.{found, deleted, absent, get, presence}
@@ -83,3 +83,15 @@ table-moves = (refl, refl, refl, refl, refl, refl, refl, refl, refl, refl)
 pub table-views : (viewed imageT (keyView imageT (on 3)) ≡ b) × (viewed imageT (valueView imageT (on 3)) ≡ y) × (viewed imageT (valueView imageT (on 4)) ≡ []) × (viewed imageT (keyView imageT (on 0)) ≡ [])
 unfolding compareKeys compareEntries headerHolds add get presence entryMove partsOn find look word putWord putWords linkOf heightOf entryOf nodeWritten written lenAt keyedAt restAt encode leadAt
 table-views = (refl, refl, refl, refl)
+
+-- ---- damage that a scan would go round on: a, b and c at number 1, each in a node of height 1, in an image of 200 bytes
+
+abbrev abc : List ℕ
+abc = added (added (added (freshImage (replicate 200 0)) (put a 1 x) 1) (put b 1 x) 1) (put c 1 x) 1
+
+-- whole, the entry cursor goes through; with c's type 2, or the length of its value 2, it is refused before c, by next and by seek; with the link of node 1 to
+-- itself, or that of node 2 back to node 1, next is refused; and so is previous, back onto a type of 2
+pub no-round : (entryMove abc next (on 2) ≡ given (on 3)) × (entryMove (set abc 126 2) next (on 2) ≡ refused damaged) × (entryMove (set abc 134 2) next (on 2) ≡ refused damaged) × (entryMove (set abc 126 2) (seek c 9) nowhere ≡ refused damaged)
+    × (entryMove (putWord abc 72 1) next (on 1) ≡ refused damaged) × (entryMove (putWord abc 96 1) next (on 2) ≡ refused damaged) × (entryMove (set abc 102 2) previous (on 3) ≡ refused damaged)
+unfolding compareKeys compareEntries headerHolds add get presence entryMove partsOn find look word putWord putWords linkOf heightOf entryOf nodeWritten written lenAt keyedAt restAt encode leadAt
+no-round = (refl, refl, refl, refl, refl, refl, refl)

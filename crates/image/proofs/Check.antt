@@ -34,7 +34,7 @@ pub record Run (xs : List ℕ) (i o : ℕ) : Type 0 where
   pub reads : (j : ℕ) → i ≤ j → j ≤ count xs → NodeIs xs j (heightOf xs j) (entryOf xs j)
 
 -- a node that is read
-node-seen : (xs : List ℕ) (i : ℕ) (m : Node) → Bytes xs → free xs ≤ length xs → nodeAt xs i ≡ got m → NodeIs xs i (heightOf xs i) (entryOf xs i) × (m .end ≡ slot xs i + sizeAt xs i)
+pub node-seen : (xs : List ℕ) (i : ℕ) (m : Node) → Bytes xs → free xs ≤ length xs → nodeAt xs i ≡ got m → NodeIs xs i (heightOf xs i) (entryOf xs i) × (m .end ≡ slot xs i + sizeAt xs i)
 unfolding heightOf entryOf
 node-seen xs i m b le g =
     let (n, end) = node-sound xs (free xs) (slot xs i) m b le g in

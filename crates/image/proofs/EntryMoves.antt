@@ -13,21 +13,21 @@ use Rattle.rule.specs.Entries.{Entry, order}
 use Rattle.rule.proofs.Lists.{here, all-nil, all-cons, all-append, mem-split, pairwise-middle}
 use Rattle.rule.proofs.Order.{entries, comparePairs, less-greater}
 use Rattle.image.specs.Limits.{maxKey, maxNumber, levels}
-use Rattle.image.specs.Readers.{got, bind}
-use Rattle.image.specs.Entries.{keyIn, numberIn}
-use Rattle.image.specs.Nodes.{count, free, slot, leadOf, heightOf, entryOf, linkOf}
+use Rattle.image.specs.Readers.{got}
+use Rattle.image.specs.Entries.{entryIn, compareKeyed}
+use Rattle.image.specs.Nodes.{count, Node, nodeAt, heightOf, entryOf, linkPlace, linkOf}
 use Rattle.image.specs.Sound.{Sound, held}
 use Rattle.image.specs.Search.{toStop, toGoDown, turnBy, Found, hit, ends, standing, passed}
 use Rattle.image.specs.Refusals.{given}
-use Rattle.image.specs.EntryMoves.{Cursor, nowhere, on, cursorAt, inTable, EntryMove, first, seek, next, previous, follow, lastBefore, moved, entryMove}
+use Rattle.image.specs.EntryMoves.{Cursor, nowhere, on, cursorAt, inTable, EntryMove, first, seek, next, previous, follow, landing, landingAfter, firstEntry, lastBefore, moved, entryMove}
 use Rattle.image.specs.Meaning.{IsNode, Stands, Fitting, Foremost, Leads}
-use Rattle.image.proofs.Nodes.{leadFor, lead-read, node-entry}
 use Rattle.image.proofs.Chains.{last, last-middle, tall-all, link-lands}
 use Rattle.image.proofs.Chains as chains
 use Rattle.image.proofs.Sound.{header-complete, linked, positive, everywhere}
 use Rattle.image.proofs.Probe.{probe}
 use Rattle.image.proofs.Search.{isOnward, isHalt, passTest, stopTest, stop-pass, Searched, search-sound}
 use Rattle.image.proofs.Held.{held-from}
+use Rattle.image.proofs.Lookup.{node-is}
 
 -- an entry that comes before another does not come after it
 order-flip : (e f : Entry) → order e f ≡ less → isLess (order f e) ≡ false
@@ -109,20 +109,42 @@ module _ (xs : List ℕ) (s : Sound xs) where
   pub follow-head : follow xs 0 ≡ got (cursorAt (chains.first (s .sequence)))
   follow-head = follow-to 0 (s .sequence) (inl refl) ((linked xs s) .start 0 (omega arith) ∙ ap chains.first (tall-all (heightOf xs) 0 (s .sequence) (positive xs s)))
 
-  lead-is : (i : ℕ) → IsNode xs i → leadOf xs i ≡ got (leadFor (slot xs i) (heightOf xs i) (entryOf xs i))
-  lead-is i n = lead-read xs (free xs) (slot xs i) (heightOf xs i) (entryOf xs i) (s .reads i (n .some) (n .most))
+  -- every node can be read whole, so a move may end on it
+  pub landing-sound : (d : Cursor) → Stands xs d → landing xs d ≡ got d
+  landing-sound nowhere h = refl
+  landing-sound (on i) h = let (m, g, e) = node-is xs s i h in rw g
 
-  step : (i : ℕ) → IsNode xs i → (d : Cursor) × (bind (leadOf xs i) (λ m. follow xs i) ≡ got d) × Foremost order (λ e. isLess (order (entryOf xs i) e)) xs d
+  pub foremost-stands : (cmp : Entry → Entry → Ord) (cut : Entry → Bool) (d : Cursor) → Foremost cmp cut xs d → Stands xs d
+  foremost-stands cmp cut nowhere f = tt
+  foremost-stands cmp cut (on i) f = f .0
+
+  pub first-is : firstEntry xs ≡ got (cursorAt (chains.first (s .sequence)))
+  first-is = let d = cursorAt (chains.first (s .sequence)) in rw follow-head (landing-sound d (foremost-stands order (λ e. true) d (start d refl)))
+
+  -- behind an entry that comes before the one that it stands on
+  landing-after : (i : ℕ) (m : Node) → entryIn xs (m .parts) ≡ entryOf xs i → (o : ℕ) (d : Cursor) → Foremost order (λ e. isLess (order (entryOf xs i) e)) xs d → landingAfter xs (m .parts .keyed) o d ≡ got d
+  landing-after i m e o nowhere f = refl
+  landing-after i m e o (on j) f = let (t, g, d) = node-is xs s j (f .0) in let z : isLess (compareKeyed xs (m .parts .keyed) (t .parts .keyed)) ≡ true = less-by (entryIn xs (m .parts)) (entryIn xs (t .parts)) e d (f .1) in rw (g, z)
+    where
+      less-by : (a b : Entry) → a ≡ entryOf xs i → b ≡ entryOf xs j → isLess (order (entryOf xs i) (entryOf xs j)) ≡ true → isLess (order a b) ≡ true
+      less-by a b p q h = rw (p, q) h
+
+  step : (i : ℕ) → IsNode xs i → (d : Cursor) × (moved xs next (on i) ≡ got d) × Foremost order (λ e. isLess (order (entryOf xs i) e)) xs d
   step i n = let m = everywhere xs s i (n .some) (n .most) in let (a, b, e) = mem-split m in go a b e m
     where
-      go : (a b : List ℕ) → s .sequence ≡ a ++ (i ∷ b) → List·Memᴰ i (s .sequence) → (d : Cursor) × (bind (leadOf xs i) (λ m. follow xs i) ≡ got d) × Foremost order (λ e. isLess (order (entryOf xs i) e)) xs d
-      go a b e m = (
-        cursorAt (chains.first b),
-        rw (lead-is i n) (follow-to i b (inr (m, positive xs s i m)) ((linked xs s) .step 0 (omega arith) a i b e (positive xs s i m) ∙ ap chains.first (tall-all (heightOf xs) 0 b (λ x k. positive xs s x (rw e (Memᴰ·append-right a (List·Memᴰ·tail k))))))),
-        foremost-first (λ e. isLess (order (entryOf xs i) e)) (a ++ (i ∷ [])) b (e ∙ sym (append-assoc a (i ∷ []) b))
-            (all-append a (i ∷ []) (λ x k. order-flip (entryOf xs x) (entryOf xs i) ((pairwise-middle Ahead a i b (rw e at (s .ascending))) .0 x k)) (all-cons (order-same (entryOf xs i)) (all-nil _)))
-            (λ x k. ap isLess ((pairwise-middle Ahead a i b (rw e at (s .ascending))) .1 x k)),
-      )
+      go : (a b : List ℕ) → s .sequence ≡ a ++ (i ∷ b) → List·Memᴰ i (s .sequence) → (d : Cursor) × (moved xs next (on i) ≡ got d) × Foremost order (λ e. isLess (order (entryOf xs i) e)) xs d
+      go a b e m = (cursorAt (chains.first b), rw (node .1, follows) (landing-after i (node .0) (node .2) (linkPlace xs i 0) (cursorAt (chains.first b)) foremost), foremost)
+        where
+          node : (t : Node) × (nodeAt xs i ≡ got t) × (entryIn xs (t .parts) ≡ entryOf xs i)
+          node = node-is xs s i n
+
+          follows : follow xs i ≡ got (cursorAt (chains.first b))
+          follows = follow-to i b (inr (m, positive xs s i m)) ((linked xs s) .step 0 (omega arith) a i b e (positive xs s i m) ∙ ap chains.first (tall-all (heightOf xs) 0 b (λ x k. positive xs s x (rw e (Memᴰ·append-right a (List·Memᴰ·tail k))))))
+
+          foremost : Foremost order (λ e. isLess (order (entryOf xs i) e)) xs (cursorAt (chains.first b))
+          foremost = foremost-first (λ e. isLess (order (entryOf xs i) e)) (a ++ (i ∷ [])) b (e ∙ sym (append-assoc a (i ∷ []) b))
+              (all-append a (i ∷ []) (λ x k. order-flip (entryOf xs x) (entryOf xs i) ((pairwise-middle Ahead a i b (rw e at (s .ascending))) .0 x k)) (all-cons (order-same (entryOf xs i)) (all-nil _)))
+              (λ x k. ap isLess ((pairwise-middle Ahead a i b (rw e at (s .ascending))) .1 x k))
 
   sought : (k : List ℕ) (n : ℕ) (q : Searched xs s toStop k n) → Foremost order (λ e. not (isLess (compareEntries (e .key) (e .number) k n))) xs (cursorAt (standing (q .found)))
   sought k n q = rw (q .stands) (foremost-first (λ e. not (isLess (compareEntries (e .key) (e .number) k n))) (q .before) (q .behind) (q .split) (λ x m. ap not (sym (stop-pass xs k n x) ∙ q .passes x m)) (λ x m. ap not (sym (stop-pass xs k n x) ∙ q .refuses x m)))
@@ -152,26 +174,20 @@ module _ (xs : List ℕ) (s : Sound xs) where
       go (hit x looks) f = absurd (true≢false (sym ((q .hits x looks f) .1) ∙ down-stop k n x))
       go (ends p x looks prev) f = rw ((q .misses p x looks prev f) .last-passed) (foremost-last (λ e. isLess (compareEntries (e .key) (e .number) k n)) (q .before) (q .behind) (q .split) (λ x m. sym (down-pass k n x) ∙ q .passes x m) (λ x m. sym (down-pass k n x) ∙ q .refuses x m))
 
-  back : (i : ℕ) → IsNode xs i → (d : Cursor) × (bind (leadOf xs i) (λ m. lastBefore xs (keyIn xs (m .keyed)) (numberIn (m .keyed))) ≡ got d) × Foremost (λ e f. order f e) (λ e. isLess (order e (entryOf xs i))) xs d
-  back i n = let q = search-sound xs s toGoDown ((entryOf xs i) .key) ((entryOf xs i) .number) in (
+  back : (i : ℕ) → IsNode xs i → (d : Cursor) × (moved xs previous (on i) ≡ got d) × Foremost (λ e f. order f e) (λ e. isLess (order e (entryOf xs i))) xs d
+  back i n = let (m, g, e) = node-is xs s i n in let q = search-sound xs s toGoDown ((entryOf xs i) .key) ((entryOf xs i) .number) in let f = smaller-than ((entryOf xs i) .key) ((entryOf xs i) .number) q in (
     cursorAt (passed (q .found)),
-    rw (lead-is i n) (goes q),
-    smaller-than ((entryOf xs i) .key) ((entryOf xs i) .number) q,
+    rw g (ap (λ (d : Entry). lastBefore xs (d .key) (d .number)) e ∙ goes q (foremost-stands (λ e f. order f e) (λ e. isLess (order e (entryOf xs i))) (cursorAt (passed (q .found))) f)),
+    f,
   )
     where
-      entry-is : keyIn xs ((leadFor (slot xs i) (heightOf xs i) (entryOf xs i)) .keyed) ≡ (entryOf xs i) .key
-      entry-is = ap (λ (e : Entry). e .key) (node-entry xs (free xs) (slot xs i) (heightOf xs i) (entryOf xs i) (omega (arith, s .header .high)) (s .reads i (n .some) (n .most)))
-
-      number-is : numberIn ((leadFor (slot xs i) (heightOf xs i) (entryOf xs i)) .keyed) ≡ (entryOf xs i) .number
-      number-is = ap (λ (e : Entry). e .number) (node-entry xs (free xs) (slot xs i) (heightOf xs i) (entryOf xs i) (omega (arith, s .header .high)) (s .reads i (n .some) (n .most)))
-
-      goes : (q : Searched xs s toGoDown ((entryOf xs i) .key) ((entryOf xs i) .number)) → lastBefore xs (keyIn xs ((leadFor (slot xs i) (heightOf xs i) (entryOf xs i)) .keyed)) (numberIn ((leadFor (slot xs i) (heightOf xs i) (entryOf xs i)) .keyed)) ≡ got (cursorAt (passed (q .found)))
-      goes q = rw (entry-is, number-is, q .search)
+      goes : (q : Searched xs s toGoDown ((entryOf xs i) .key) ((entryOf xs i) .number)) → Stands xs (cursorAt (passed (q .found))) → lastBefore xs ((entryOf xs i) .key) ((entryOf xs i) .number) ≡ got (cursorAt (passed (q .found)))
+      goes q h = rw (q .search) (landing-sound (cursorAt (passed (q .found))) h)
 
   moved-leads : (m : EntryMove) (c : Cursor) → Stands xs c → (d : Cursor) × (moved xs m c ≡ got d) × Leads xs m c d
-  moved-leads first c h = (cursorAt (chains.first (s .sequence)), follow-head, start _ refl)
-  moved-leads (seek k n) c h = let q = search-sound xs s toStop k n in (cursorAt (standing (q .found)), rw (q .search), sought k n q)
-  moved-leads next nowhere h = (cursorAt (chains.first (s .sequence)), follow-head, start _ refl)
+  moved-leads first c h = (cursorAt (chains.first (s .sequence)), first-is, start _ refl)
+  moved-leads (seek k n) c h = let q = search-sound xs s toStop k n in let f = sought k n q in let d = cursorAt (standing (q .found)) in (d, rw (q .search) (landing-sound d (foremost-stands order (λ e. not (isLess (compareEntries (e .key) (e .number) k n))) d f)), f)
+  moved-leads next nowhere h = (cursorAt (chains.first (s .sequence)), first-is, start _ refl)
   moved-leads next (on i) h = step i h
   moved-leads previous nowhere h = (nowhere, refl, refl)
   moved-leads previous (on i) h = back i h

@@ -24,4 +24,5 @@ pub mod EntryMoves
 pub mod Spots
 pub mod Views
 pub mod Nearest
+pub mod Landing
 pub mod Newest

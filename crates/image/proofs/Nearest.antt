@@ -1,11 +1,10 @@
--- The key that comes next behind a cut: on a sound image never damaged and the right one, on any bytes a node of the table.
-use Prim.Native.Nat.{ℕ, zero, suc, _≤_}
+-- The key that comes next behind a cut: on a sound image never damaged and the right one.
+use Prim.Native.Nat.{ℕ, _≤_}
 use native.Mathlib.Omega.{arith}
 use mathlib.Core.Path.{_≡_, refl, sym, _∙_}
-use mathlib.Core.List.{List, []}
+use mathlib.Core.List.{List, [], _++_}
 use mathlib.Core.Bool.{Bool, true, false, not, true≢false}
-use lib.Dec.{leb}
-use borrow.Author.Tests.{leb-true, not-true, not-false}
+use borrow.Author.Tests.{not-true, not-false}
 use Rattle.rule.specs.Lists.{All}
 use Rattle.rule.specs.Order.{Ord, less, equal, greater, then, compareNumbers, compareKeys, compareEntries, isLess}
 use Rattle.rule.specs.Entries.{Entry, order}
@@ -14,23 +13,20 @@ use Rattle.rule.proofs.Lists.{all-nil, all-left, all-right}
 use Rattle.rule.proofs.Order.{Order, keys, opposite, flip, Says, numbers-known}
 use Rattle.rule.proofs.Nearest.{every-onward, from-onward, past-onward}
 use Rattle.image.specs.Limits.{maxNumber}
-use Rattle.image.specs.Readers.{got, bind}
-use Rattle.image.specs.Nodes.{count, entryOf, linkPlace, linkOf}
-use Rattle.image.specs.Sound.{Sound, headerHolds}
-use Rattle.image.specs.Search.{OnEqual, toStop, toGoDown, toPass, turnBy, Found, hit, ends, searched, standing, passed}
-use Rattle.image.specs.Refusals.{given, damaged}
-use Rattle.image.specs.EntryMoves.{Cursor, nowhere, on, cursorAt, lastBefore}
+use Rattle.image.specs.Readers.{got}
+use Rattle.image.specs.Nodes.{count, entryOf}
+use Rattle.image.specs.Sound.{Sound}
+use Rattle.image.specs.Search.{OnEqual, toStop, toGoDown, toPass, turnBy, Found, hit, ends, standing, passed}
+use Rattle.image.specs.Refusals.{given}
+use Rattle.image.specs.EntryMoves.{Cursor, nowhere, on, cursorAt, firstNotPassed, lastBefore}
 use Rattle.image.specs.Meaning.{Stands, Foremost}
 use Rattle.image.specs.Cuts.{Cut, all, from, above, below, cmpOf, admits, pastOf, nearAt, nearest, NearestIs}
-use Rattle.image.proofs.Refusals.{demand-given, reading-given}
-use Rattle.image.proofs.Readers.{got-same, bind-got, check-got}
 use Rattle.image.proofs.Chains.{first, last}
 use Rattle.image.proofs.Sound.{header-complete}
 use Rattle.image.proofs.Search.{isOnward, passTest, stop-pass, Searched, search-sound}
 use Rattle.image.proofs.Probe.{probe}
-use Rattle.image.proofs.Spots.{standing-most, passed-most}
 use Rattle.image.proofs.Held.{held-has}
-use Rattle.image.proofs.EntryMoves.{foremost-first, foremost-last, follow-head, down-pass, down-stop}
+use Rattle.image.proofs.EntryMoves.{landing-sound, first-is, foremost-first, foremost-last, down-pass, down-stop}
 
 -- ---- the way of a cut
 
@@ -64,7 +60,7 @@ past-admits below t = refl
 -- ---- what a search passes, by keys alone
 
 -- for the highest number, the keys below
-before-key : (o : Ord) (n : ℕ) → n ≤ maxNumber → isLess (then o (compareNumbers maxNumber n)) ≡ isLess o
+pub before-key : (o : Ord) (n : ℕ) → n ≤ maxNumber → isLess (then o (compareNumbers maxNumber n)) ≡ isLess o
 before-key less n h = refl
 before-key equal n h = go (compareNumbers maxNumber n) (numbers-known maxNumber n refl)
   where
@@ -75,7 +71,7 @@ before-key equal n h = go (compareNumbers maxNumber n) (numbers-known maxNumber 
 before-key greater n h = refl
 
 -- for the number 0, passing what is equal, the keys that are not above
-upto-key : (o : Ord) (n : ℕ) → isOnward (turnBy toPass (then o (compareNumbers 0 n))) ≡ not (isLess (flip o))
+pub upto-key : (o : Ord) (n : ℕ) → isOnward (turnBy toPass (then o (compareNumbers 0 n))) ≡ not (isLess (flip o))
 upto-key less n = refl
 upto-key equal n = go (compareNumbers 0 n) (numbers-known 0 n refl)
   where
@@ -117,33 +113,43 @@ module _ (xs : List ℕ) (s : Sound xs) where
     nearest-by cmp keeps nowhere f = f
     nearest-by cmp keeps (on i) (n, a, f) = (n, ((entryOf xs i, held-has xs (count xs) i (n .some) (n .most), refl), a, λ e m q. keeps e (entryOf xs i) (f e m q)))
 
+    nearest-stands : (d : Cursor) → NearestIs xs c t d → Stands xs d
+    nearest-stands nowhere n = tt
+    nearest-stands (on i) n = n .0
+
     -- where the search passes what the cut leaves out, it stands at the answer
     upward : (mode : OnEqual) (n : ℕ) → ((e f : Entry) → isLess (order e f) ≡ false → isLess (cmpOf c (e .key) (f .key)) ≡ false) → All (λ x. passTest xs mode t n x ≡ not (admits c t (keyOf x))) (s .sequence)
-        → (d : Cursor) × (bind (searched xs mode t n) (λ r. got (cursorAt (standing r))) ≡ got d) × NearestIs xs c t d
-    upward mode n keeps pass = let q = search-sound xs s mode t n in let p = rw (q .split) at pass in (
+        → (d : Cursor) × (firstNotPassed xs mode t n ≡ got d) × NearestIs xs c t d
+    upward mode n keeps pass = let q = search-sound xs s mode t n in let p = rw (q .split) at pass in let near = near-at q p in (
       cursorAt (standing (q .found)),
-      rw (q .search),
-      rw (q .stands) (nearest-by order keeps (cursorAt (first (q .behind))) (foremost-first xs s (λ e. admits c t (e .key)) (q .before) (q .behind) (q .split)
-          (λ x m. not-true _ (sym (all-left (q .before) (q .behind) p x m) ∙ q .passes x m)) (λ x m. not-false _ (sym (all-right (q .before) (q .behind) p x m) ∙ q .refuses x m)))),
+      rw (q .search) (landing-sound xs s (cursorAt (standing (q .found))) (nearest-stands (cursorAt (standing (q .found))) near)),
+      near,
     )
+      where
+        near-at : (q : Searched xs s mode t n) → All (λ x. passTest xs mode t n x ≡ not (admits c t (keyOf x))) (q .before ++ q .behind) → NearestIs xs c t (cursorAt (standing (q .found)))
+        near-at q p = rw (q .stands) (nearest-by order keeps (cursorAt (first (q .behind))) (foremost-first xs s (λ e. admits c t (e .key)) (q .before) (q .behind) (q .split)
+            (λ x m. not-true _ (sym (all-left (q .before) (q .behind) p x m) ∙ q .passes x m)) (λ x m. not-false _ (sym (all-right (q .before) (q .behind) p x m) ∙ q .refuses x m))))
 
     -- where it passes what the cut admits, the last node passed is the answer
     downward : (n : ℕ) → ((e f : Entry) → isLess (order f e) ≡ false → isLess (cmpOf c (e .key) (f .key)) ≡ false) → All (λ x. passTest xs toGoDown t n x ≡ admits c t (keyOf x)) (s .sequence)
         → (d : Cursor) × (lastBefore xs t n ≡ got d) × NearestIs xs c t d
-    downward n keeps pass = let q = search-sound xs s toGoDown t n in (
+    downward n keeps pass = let q = search-sound xs s toGoDown t n in let near = near-at q (rw (q .split) at pass) in (
       cursorAt (passed (q .found)),
-      rw (q .search),
-      rw (last-passed q (q .found) refl) (nearest-by (λ e f. order f e) keeps (cursorAt (last 0 (q .before))) (foremost-last xs s (λ e. admits c t (e .key)) (q .before) (q .behind) (q .split)
-          (λ x m. sym (all-left (q .before) (q .behind) (rw (q .split) at pass) x m) ∙ q .passes x m) (λ x m. sym (all-right (q .before) (q .behind) (rw (q .split) at pass) x m) ∙ q .refuses x m))),
+      rw (q .search) (landing-sound xs s (cursorAt (passed (q .found))) (nearest-stands (cursorAt (passed (q .found))) near)),
+      near,
     )
       where
         last-passed : (q : Searched xs s toGoDown t n) (r : Found) → q .found ≡ r → passed r ≡ last 0 (q .before)
         last-passed q (hit x looks) f = absurd (true≢false (sym ((q .hits x looks f) .1) ∙ down-stop xs s t n x))
         last-passed q (ends p x looks prev) f = (q .misses p x looks prev f) .last-passed
 
+        near-at : (q : Searched xs s toGoDown t n) → All (λ x. passTest xs toGoDown t n x ≡ admits c t (keyOf x)) (q .before ++ q .behind) → NearestIs xs c t (cursorAt (passed (q .found)))
+        near-at q p = rw (last-passed q (q .found) refl) (nearest-by (λ e f. order f e) keeps (cursorAt (last 0 (q .before))) (foremost-last xs s (λ e. admits c t (e .key)) (q .before) (q .behind) (q .split)
+            (λ x m. sym (all-left (q .before) (q .behind) p x m) ∙ q .passes x m) (λ x m. sym (all-right (q .before) (q .behind) p x m) ∙ q .refuses x m)))
+
   -- the nearest key behind a cut: never damaged, and the right one
   near-right : (c : Cut) (t : List ℕ) → (d : Cursor) × (nearAt xs c t ≡ got d) × NearestIs xs c t d
-  near-right all t = (cursorAt (first (s .sequence)), follow-head xs s, nearest-by all t order key-order (cursorAt (first (s .sequence))) (foremost-first xs s (λ e. true) [] (s .sequence) refl (all-nil _) (λ x m. refl)))
+  near-right all t = (cursorAt (first (s .sequence)), first-is xs s, nearest-by all t order key-order (cursorAt (first (s .sequence))) (foremost-first xs s (λ e. true) [] (s .sequence) refl (all-nil _) (λ x m. refl)))
   near-right from t = upward from t toStop maxNumber key-order (λ x m. before-pass toStop t (stop-pass xs t maxNumber) x m ∙ sym (not-not (isLess (compareKeys (keyOf x) t))))
     where
       not-not : (b : Bool) → not (not b) ≡ b
@@ -155,27 +161,3 @@ module _ (xs : List ℕ) (s : Sound xs) where
   pub nearest-right : (c : Cut) (t : List ℕ) → (d : Cursor) × (nearest xs c t ≡ given d) × NearestIs xs c t d
   unfolding nearest
   nearest-right c t = let (d, e, n) = near-right c t in (d, rw (header-complete xs (s .header), e), n)
-
--- ---- on any bytes
-
-module _ (xs : List ℕ) where
-  stands-at : (i : ℕ) (d : Cursor) → i ≤ count xs → got (cursorAt i) ≡ got d → Stands xs d
-  stands-at i d m e = rw (← got-same e) (go i m)
-    where
-      go : (i : ℕ) → i ≤ count xs → Stands xs (cursorAt i)
-      go zero m = tt
-      go (suc i) m = record { some = omega arith; most = m }
-
-  landed : (mode : OnEqual) (node : Found → ℕ) (t : List ℕ) (n : ℕ) → ((r : Found) → searched xs mode t n ≡ got r → node r ≤ count xs) → (d : Cursor) → bind (searched xs mode t n) (λ r. got (cursorAt (node r))) ≡ got d → Stands xs d
-  landed mode node t n most d e = let (r, f, g) = bind-got (searched xs mode t n) (λ r. got (cursorAt (node r))) d e in stands-at (node r) d (most r f) g
-
-  near-in : (c : Cut) (t : List ℕ) (d : Cursor) → nearAt xs c t ≡ got d → Stands xs d
-  near-in all t d e = let (p, q) = check-got (leb (linkOf xs 0 0) (count xs)) (linkPlace xs 0 0) _ d e in stands-at (linkOf xs 0 0) d (leb-true (linkOf xs 0 0) (count xs) p) q
-  near-in from t d e = landed toStop standing t maxNumber (standing-most xs toStop t maxNumber) d e
-  near-in above t d e = landed toPass standing t 0 (standing-most xs toPass t 0) d e
-  near-in below t d e = landed toGoDown passed t maxNumber (passed-most xs toGoDown t maxNumber) d e
-
-  -- the node that answers is one of the table
-  pub nearest-in : (c : Cut) (t : List ℕ) (d : Cursor) → nearest xs c t ≡ given d → Stands xs d
-  unfolding nearest
-  nearest-in c t d e = let (_, f) = demand-given (headerHolds xs) damaged _ d e in let (b, g, h) = reading-given (nearAt xs c t) given d f in let z : b ≡ d = cc in near-in c t d (rw z at g)

@@ -1,4 +1,4 @@
--- The newest entry of a key: on a sound image never damaged and the right one, on any bytes a node of the table.
+-- The newest entry of a key: on a sound image never damaged and the right one.
 use Prim.Native.Nat.{ℕ, zero, suc, _≤_}
 use native.Mathlib.Omega.{arith}
 use mathlib.Core.Path.{_≡_, sym, _∙_}
@@ -9,20 +9,17 @@ use Rattle.rule.specs.Lists.{cond, none, some}
 use Rattle.rule.specs.Order.{compareKeys, isEqual}
 use Rattle.rule.specs.Entries.{Entry, valueKind, deletionKind}
 use Rattle.rule.specs.Rows.{newest}
-use Rattle.image.specs.Readers.{got}
-use Rattle.image.specs.Nodes.{count, entryOf}
-use Rattle.image.specs.Sound.{Sound, headerHolds, held}
-use Rattle.image.specs.Search.{toStop, searched, standing}
-use Rattle.image.specs.Refusals.{given, damaged}
-use Rattle.image.specs.Lookup.{Looked, found, deleted, absent, saidAt}
+use Rattle.image.specs.Nodes.{entryOf}
+use Rattle.image.specs.Sound.{Sound, held}
+use Rattle.image.specs.Search.{toStop, standing}
+use Rattle.image.specs.Refusals.{given}
+use Rattle.image.specs.Lookup.{Looked, found, deleted, absent}
 use Rattle.image.specs.Meaning.{IsNode, Tells}
-use Rattle.image.specs.Newest.{NewestAt, withNode, newestAt, NewestOn, NewestIs, NewestIn}
-use Rattle.image.proofs.Refusals.{demand-given, reading-given}
+use Rattle.image.specs.Newest.{NewestAt, withNode, newestAt, NewestOn, NewestIs}
 use Rattle.image.proofs.Sound.{header-complete}
 use Rattle.image.proofs.Search.{Searched, search-sound}
 use Rattle.image.proofs.Held.{entryIf, lookup-right}
 use Rattle.image.proofs.Lookup.{stop-less, stands-on, said}
-use Rattle.image.proofs.Spots.{standing-most}
 
 -- ---- on a sound image
 
@@ -52,17 +49,3 @@ module _ (xs : List ℕ) (s : Sound xs) (k : List ℕ) (t : ℕ) where
     where
       go : (q : Searched xs s toStop k t) → newest k t (held xs) ≡ entryIf xs k (standing (q .found)) → (v : NewestAt) × (newestAt xs k t ≡ given v) × NewestIs xs k t v
       go q f = let n = stands-on xs s k t q in let (a, g, m) = said xs s k t (standing (q .found)) f n in (withNode (standing (q .found)) a, rw (header-complete xs (s .header), q .search, g), told (standing (q .found)) f n a m)
-
--- ---- on any bytes
-
--- the node that answers is one of the table
-pub newest-in : (xs k : List ℕ) (s : ℕ) (v : NewestAt) → newestAt xs k s ≡ given v → NewestIn xs v
-unfolding newestAt
-newest-in xs k s v e = let (_, f) = demand-given (headerHolds xs) damaged _ v e in let (r, g, h) = reading-given (searched xs toStop k s) _ v f in let (a, p, q) = reading-given (saidAt xs k (standing r)) _ v h in
-    let z : withNode (standing r) a ≡ v = cc in rw (← z) (go (standing r) (standing-most xs toStop k s r g) a p)
-  where
-    go : (i : ℕ) → i ≤ count xs → (a : Looked) → saidAt xs k i ≡ got a → NewestIn xs (withNode i a)
-    go zero m a p = let z : absent ≡ a = cc in rw (← z) tt
-    go (suc i) m (found j) p = record { some = omega arith; most = m }
-    go (suc i) m deleted p = record { some = omega arith; most = m }
-    go (suc i) m absent p = tt

@@ -85,8 +85,11 @@ pub record Written (xs : List ℕ) (n o h : ℕ) (e : Entry) (link place : ℕ �
   pub kept : (i : ℕ) → (4 ≤ i → i < 12 → ⊥) → (o ≤ i → i < o + sizeOf h e → ⊥) → (length xs - 4 * suc n ≤ i → i < length xs - 4 * n → ⊥) → ((l : ℕ) → l < h → place l ≤ i → i < place l + 4 → ⊥) → getD ys i 0 ≡ getD xs i 0
 
 module _ (xs : List ℕ) (n o h : ℕ) (e : Entry) (link place : ℕ → ℕ) (f : Fits xs n o h e link place) where
+  w3 : List ℕ
+  w3 = putWord xs 8 (o + sizeOf h e)
+
   w4 : List ℕ
-  w4 = nodeWritten xs o h e link
+  w4 = nodeWritten w3 o h e link
 
   w5 : List ℕ
   w5 = putWord w4 (length xs - 4 * suc n) o
@@ -94,61 +97,74 @@ module _ (xs : List ℕ) (n o h : ℕ) (e : Entry) (link place : ℕ → ℕ) (f
   w6 : List ℕ
   w6 = putWords w5 place (λ l. suc n) h
 
-  w7 : List ℕ
-  w7 = putWord w6 4 (suc n)
+  length-w3 : length w3 ≡ length xs
+  unfolding w3
+  length-w3 = length-putWord xs 8 (o + sizeOf h e)
+
+  length-w4 : length w4 ≡ length xs
+  unfolding w4
+  length-w4 = length-node w3 o h e link ∙ length-w3
 
   length-w5 : length w5 ≡ length xs
-  unfolding w5 w4
-  length-w5 = length-putWord w4 (length xs - 4 * suc n) o ∙ length-node xs o h e link
+  unfolding w5
+  length-w5 = length-putWord w4 (length xs - 4 * suc n) o ∙ length-w4
 
-  length-w7 : length w7 ≡ length xs
-  unfolding w7 w6
-  length-w7 = length-putWord w6 4 (suc n) ∙ length-putWords w5 place (λ l. suc n) h ∙ length-w5
+  length-w6 : length w6 ≡ length xs
+  unfolding w6
+  length-w6 = length-putWords w5 place (λ l. suc n) h ∙ length-w5
 
   -- the later writes leave the node alone
-  later : Same (putWord w7 8 (o + sizeOf h e)) w4 o (o + sizeOf h e)
-  unfolding w7 w6 w5
-  later i p q = putWord-out w7 8 (o + sizeOf h e) i (λ a b. omega (arith, f .behind)) ∙ putWord-out w6 4 (suc n) i (λ a b. omega (arith, f .behind))
+  later : Same (putWord w6 4 (suc n)) w4 o (o + sizeOf h e)
+  unfolding w6 w5
+  later i p q = putWord-out w6 4 (suc n) i (λ a b. omega (arith, f .behind))
       ∙ putWords-out w5 place (λ l. suc n) h i (λ l k a b. omega (arith, f .places-high l k)) ∙ putWord-out w4 (length xs - 4 * suc n) o i (λ a b. omega (arith, f .space))
 
-  node-stays : NodeWritten xs o h e link w4 → NodeWritten xs o h e link (putWord w7 8 (o + sizeOf h e))
+  node-stays : NodeWritten w3 o h e link w4 → NodeWritten xs o h e link (putWord w6 4 (suc n))
   node-stays w = record {
-    height-written = word-same (putWord w7 8 (o + sizeOf h e)) w4 o (λ i p q. later i p (omega arith)) ∙ w .height-written;
-    length-written = word-same (putWord w7 8 (o + sizeOf h e)) w4 (o + 4) (λ i p q. later i (omega arith) (omega arith)) ∙ w .length-written;
-    links-written = λ l k. word-same (putWord w7 8 (o + sizeOf h e)) w4 (o + 8 + 4 * l) (λ i p q. later i (omega arith) (omega arith)) ∙ w .links-written l k;
-    entry-written = holds-same w4 (putWord w7 8 (o + sizeOf h e)) (entryPlace o h) (encode e) (λ i p q. sym (later i (omega arith) (omega arith))) (w .entry-written);
+    height-written = word-same (putWord w6 4 (suc n)) w4 o (λ i p q. later i p (omega arith)) ∙ w .height-written;
+    length-written = word-same (putWord w6 4 (suc n)) w4 (o + 4) (λ i p q. later i (omega arith) (omega arith)) ∙ w .length-written;
+    links-written = λ l k. word-same (putWord w6 4 (suc n)) w4 (o + 8 + 4 * l) (λ i p q. later i (omega arith) (omega arith)) ∙ w .links-written l k;
+    entry-written = holds-same w4 (putWord w6 4 (suc n)) (entryPlace o h) (encode e) (λ i p q. sym (later i (omega arith) (omega arith))) (w .entry-written);
   }
 
+  -- the first free byte stays through what is written after it
+  free-stays : word (putWord w6 4 (suc n)) 8 ≡ word w3 8
+  unfolding w6 w5 w4
+  free-stays = word-kept w6 4 (suc n) 8 (λ p q. omega arith) ∙ putWords-kept w5 place (λ l. suc n) h 8 (λ l k p q. omega (arith, f .places-low l k))
+      ∙ word-kept w4 (length xs - 4 * suc n) o 8 (λ p q. omega (arith, f .space, f .behind)) ∙ word-same w4 w3 8 (λ i p q. node-out w3 o h e link i (λ a b. omega (arith, f .behind)))
+
   pub is-written : Written xs n o h e link place (written xs n o h e link place)
-  unfolding written w7 w6 w5 w4
+  unfolding written w6 w5 w4 w3
   is-written = record {
-    length-kept = length-putWord w7 8 (o + sizeOf h e) ∙ length-w7;
-    count-is = word-kept w7 8 (o + sizeOf h e) 4 (λ p q. omega arith) ∙ word-written w6 4 (suc n) (f .number-small) (omega (arith, f .space, f .behind, length-w7, length-putWord w6 4 (suc n)));
-    free-is = word-written w7 8 (o + sizeOf h e) (omega (arith, f .space, f .image-small)) (omega (arith, f .space, f .behind, length-w7));
-    slot-is = word-kept w7 8 (o + sizeOf h e) (length xs - 4 * suc n) (λ p q. omega (arith, f .space, f .behind)) ∙ word-kept w6 4 (suc n) (length xs - 4 * suc n) (λ p q. omega (arith, f .space, f .behind))
+    length-kept = length-putWord w6 4 (suc n) ∙ length-w6;
+    count-is = word-written w6 4 (suc n) (f .number-small) (omega (arith, f .space, f .behind, length-w6));
+    free-is = free-stays ∙ word-written xs 8 (o + sizeOf h e) (omega (arith, f .space, f .image-small)) (omega (arith, f .space, f .behind));
+    slot-is = word-kept w6 4 (suc n) (length xs - 4 * suc n) (λ p q. omega (arith, f .space, f .behind))
         ∙ putWords-kept w5 place (λ l. suc n) h (length xs - 4 * suc n) (λ l k p q. omega (arith, f .space, f .places-high l k))
-        ∙ word-written w4 (length xs - 4 * suc n) o (omega (arith, f .space, f .image-small)) (omega (arith, f .space, length-node xs o h e link));
-    node-is = node-stays (node-is-written xs o h e link (omega (arith, f .space)) (omega (arith, f .space, f .image-small)) (omega (arith, f .space, f .image-small)) (f .links-small));
-    joined = λ l k. word-kept w7 8 (o + sizeOf h e) (place l) (λ p q. omega (arith, f .places-low l k)) ∙ word-kept w6 4 (suc n) (place l) (λ p q. omega (arith, f .places-low l k))
+        ∙ word-written w4 (length xs - 4 * suc n) o (omega (arith, f .space, f .image-small)) (omega (arith, f .space, length-w4));
+    node-is = node-stays (node-is-written w3 o h e link (omega (arith, f .space, length-w3)) (omega (arith, f .space, f .image-small)) (omega (arith, f .space, f .image-small)) (f .links-small));
+    joined = λ l k. word-kept w6 4 (suc n) (place l) (λ p q. omega (arith, f .places-low l k))
         ∙ putWords-written w5 place (λ l. suc n) h (f .places-apart) (λ x p. omega (arith, f .places-high x p, f .space, length-w5)) (λ x p. f .number-small) l k;
-    kept = λ i a b c d. putWord-out w7 8 (o + sizeOf h e) i (λ p q. a (omega arith) (omega arith)) ∙ putWord-out w6 4 (suc n) i (λ p q. a (omega arith) (omega arith))
-        ∙ putWords-out w5 place (λ l. suc n) h i d ∙ putWord-out w4 (length xs - 4 * suc n) o i (λ p q. c p (omega (arith, f .space))) ∙ node-out xs o h e link i b;
+    kept = λ i a b c d. putWord-out w6 4 (suc n) i (λ p q. a (omega arith) (omega arith))
+        ∙ putWords-out w5 place (λ l. suc n) h i d ∙ putWord-out w4 (length xs - 4 * suc n) o i (λ p q. c p (omega (arith, f .space))) ∙ node-out w3 o h e link i b
+        ∙ putWord-out xs 8 (o + sizeOf h e) i (λ p q. a (omega arith) (omega arith));
   }
 
 pub written-bytes : (xs : List ℕ) (n o h : ℕ) (e : Entry) (link place : ℕ → ℕ) → Bytes (encode e) → Bytes xs → Bytes (written xs n o h e link place)
 unfolding written
-written-bytes xs n o h e link place c b = putWord-bytes _ 8 (o + sizeOf h e) (putWord-bytes _ 4 (suc n) (putWords-bytes _ place (λ l. suc n) h (putWord-bytes _ (length xs - 4 * suc n) o (node-bytes xs o h e link c b))))
+written-bytes xs n o h e link place c b = putWord-bytes _ 4 (suc n) (putWords-bytes _ place (λ l. suc n) h (putWord-bytes _ (length xs - 4 * suc n) o (node-bytes _ o h e link c (putWord-bytes xs 8 (o + sizeOf h e) b))))
 
 -- on any list: the length is kept, and every byte outside the places of the writes
 pub written-length : (xs : List ℕ) (n o h : ℕ) (e : Entry) (link place : ℕ → ℕ) → length (written xs n o h e link place) ≡ length xs
 unfolding written
-written-length xs n o h e link place = length-putWord _ 8 (o + sizeOf h e) ∙ length-putWord _ 4 (suc n) ∙ length-putWords _ place (λ l. suc n) h ∙ length-putWord _ (length xs - 4 * suc n) o ∙ length-node xs o h e link
+written-length xs n o h e link place = length-putWord _ 4 (suc n) ∙ length-putWords _ place (λ l. suc n) h ∙ length-putWord _ (length xs - 4 * suc n) o ∙ length-node _ o h e link ∙ length-putWord xs 8 (o + sizeOf h e)
 
 pub written-kept : (xs : List ℕ) (n o h : ℕ) (e : Entry) (link place : ℕ → ℕ) (i : ℕ) → o + sizeOf h e + 4 ≤ length xs - 4 * n → (4 ≤ i → i < 12 → ⊥) → (o ≤ i → i < o + sizeOf h e → ⊥)
     → (length xs - 4 * suc n ≤ i → i < length xs - 4 * n → ⊥) → ((l : ℕ) → l < h → place l ≤ i → i < place l + 4 → ⊥) → getD (written xs n o h e link place) i 0 ≡ getD xs i 0
 unfolding written
-written-kept xs n o h e link place i space a b c d = putWord-out _ 8 (o + sizeOf h e) i (λ p q. a (omega arith) (omega arith)) ∙ putWord-out _ 4 (suc n) i (λ p q. a (omega arith) (omega arith))
-    ∙ putWords-out _ place (λ l. suc n) h i d ∙ putWord-out _ (length xs - 4 * suc n) o i (λ p q. c p (omega arith)) ∙ node-out xs o h e link i b
+written-kept xs n o h e link place i space a b c d = putWord-out _ 4 (suc n) i (λ p q. a (omega arith) (omega arith))
+    ∙ putWords-out _ place (λ l. suc n) h i d ∙ putWord-out _ (length xs - 4 * suc n) o i (λ p q. c p (omega arith)) ∙ node-out _ o h e link i b
+    ∙ putWord-out xs 8 (o + sizeOf h e) i (λ p q. a (omega arith) (omega arith))
 
 -- a node written to the part that starts at its place is the node written to the whole
 pub node-behind : (ps ys : List ℕ) (h : ℕ) (e : Entry) (link : ℕ → ℕ) → nodeWritten (ps ++ ys) (length ps) h e link ≡ ps ++ nodeWritten ys 0 h e link

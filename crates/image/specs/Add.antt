@@ -21,10 +21,10 @@ use Rattle.image.specs.Refusals.{badImage, badKind, badNumber, longKey, 
 unfoldable pub nodeWritten : List ℕ → ℕ → ℕ → Entry → (ℕ → ℕ) → List ℕ
 nodeWritten xs o h e link = sets (putWords (putWord (putWord xs o h) (o + 4) (length (encode e))) (λ l. o + 8 + 4 * l) link h) (entryPlace o h) (encode e)
 
--- node n + 1 at o with its slot; a link to it at each level below h; then n and F
+-- F; node n + 1 at o with its slot; a link to it at each level below h, from the lowest up; and last n, which makes it a node of the table
 unfoldable pub written : List ℕ → ℕ → ℕ → ℕ → Entry → (ℕ → ℕ) → (ℕ → ℕ) → List ℕ
 written xs n o h e link place =
-    putWord (putWord (putWords (putWord (nodeWritten xs o h e link) (length xs - 4 * suc n) o) place (λ l. suc n) h) 4 (suc n)) 8 (o + sizeOf h e)
+    putWord (putWords (putWord (nodeWritten (putWord xs 8 (o + sizeOf h e)) o h e link) (length xs - 4 * suc n) o) place (λ l. suc n) h) 4 (suc n)
 
 -- the entry e in a node of height h at F, behind the nodes that a search recorded: it takes over their links, and they lead to it
 abbrev pub withEntry : List ℕ → Entry → ℕ → List ℕ → List ℕ

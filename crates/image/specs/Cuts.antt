@@ -1,17 +1,18 @@
 -- The key that comes next behind a cut, in one table and on any bytes: what a walk over the keys asks of it.
 use Prim.Native.Nat.{ℕ}
+use mathlib.Core.Path.{_≡_}
 use mathlib.Core.List.{List}
 use mathlib.Core.Bool.{Bool, true, not}
 use Rattle.rule.specs.Lists.{none, some}
 use Rattle.rule.specs.Order.{Ord, compareKeys, isLess}
 use Rattle.rule.specs.Nearest.{Least}
 use Rattle.image.specs.Limits.{maxNumber}
-use Rattle.image.specs.Readers.{Read, got, bind}
+use Rattle.image.specs.Readers.{Read}
 use Rattle.image.specs.Nodes.{entryOf}
 use Rattle.image.specs.Sound.{headerHolds, held}
-use Rattle.image.specs.Search.{toPass, searched, standing}
+use Rattle.image.specs.Search.{toStop, toPass}
 use Rattle.image.specs.Refusals.{Answer, given, damaged, demand, reading}
-use Rattle.image.specs.EntryMoves.{Cursor, nowhere, on, cursorAt, follow, firstFrom, lastBefore}
+use Rattle.image.specs.EntryMoves.{Cursor, nowhere, on, viewRefusal, firstEntry, firstNotPassed, lastBefore}
 use Rattle.image.specs.Meaning.{IsNode}
 
 -- a cut at a key: upward every key, the keys from it on or those above it; downward the keys below it
@@ -42,15 +43,11 @@ pastOf from = above
 pastOf above = above
 pastOf below = below
 
--- the first node past every entry of a key
-abbrev pub firstPast : List ℕ → List ℕ → Read Cursor
-firstPast xs k = bind (searched xs toPass k 0) (λ r. got (cursorAt (standing r)))
-
 -- the node that answers: upward the first that the search does not pass, downward the last that it passes
 abbrev pub nearAt : List ℕ → Cut → List ℕ → Read Cursor
-nearAt xs all t = follow xs 0
-nearAt xs from t = firstFrom xs t maxNumber
-nearAt xs above t = firstPast xs t
+nearAt xs all t = firstEntry xs
+nearAt xs from t = firstNotPassed xs toStop t maxNumber
+nearAt xs above t = firstNotPassed xs toPass t 0
 nearAt xs below t = lastBefore xs t maxNumber
 
 -- the whole question; a bad header is damage
@@ -61,3 +58,8 @@ nearest xs c t = demand (headerHolds xs) damaged (reading (nearAt xs c t) given)
 abbrev pub NearestIs : List ℕ → Cut → List ℕ → Cursor → Type 0
 NearestIs xs c t nowhere = Least (cmpOf c) (admits c t) (held xs) none
 NearestIs xs c t (on i) = IsNode xs i × Least (cmpOf c) (admits c t) (held xs) (some ((entryOf xs i) .key))
+
+-- what it means on any bytes: the cursor's node can be read whole, and its key is one that the cut admits
+abbrev pub NearLands : List ℕ → Cut → List ℕ → Cursor → Type 0
+NearLands xs c t nowhere = Unit
+NearLands xs c t (on i) = IsNode xs i × (viewRefusal xs (on i) ≡ 0) × (admits c t ((entryOf xs i) .key) ≡ true)

@@ -4,6 +4,7 @@ use mathlib.Core.List.{List, [], _∷_, _++_}
 use lib.ListN.{length, getD}
 use lib.Dec.{ltb, leb, eqb}
 use Rattle.rule.specs.Lists.{cond, both}
+use Rattle.rule.specs.Order.{Ord, compareEntries}
 use Rattle.rule.specs.Entries.{Entry}
 use Rattle.image.specs.Limits.{maxKey, maxValue, maxNumber}
 use Rattle.image.specs.Words.{part, fixed, bytes}
@@ -85,6 +86,10 @@ keyIn xs k = part xs (k .keyAt) (k .keyLen)
 -- and its number
 abbrev pub numberIn : Keyed → ℕ
 numberIn k = k .tagIs / 256
+
+-- two entries in their order, by their keys and numbers
+abbrev pub compareKeyed : List ℕ → Keyed → Keyed → Ord
+compareKeyed xs a b = compareEntries (keyIn xs a) (numberIn a) (keyIn xs b) (numberIn b)
 
 -- the entry whose parts stand there
 abbrev pub entryIn : List ℕ → Parts → Entry

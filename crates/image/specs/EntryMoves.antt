@@ -5,14 +5,15 @@ use mathlib.Core.Bool.{Bool, true}
 use lib.ListN.{length}
 use lib.Dec.{leb, eqb}
 use Rattle.rule.specs.Lists.{cond, both, Maybe, none, some}
+use Rattle.rule.specs.Order.{isLess}
 use Rattle.rule.specs.Entries.{valueKind}
 use Rattle.image.specs.Limits.{maxKey, maxNumber}
 use Rattle.image.specs.Words.{part}
 use Rattle.image.specs.Readers.{Read, got, bind, check}
-use Rattle.image.specs.Entries.{Parts, keyIn, numberIn}
-use Rattle.image.specs.Nodes.{count, leadOf, nodeAt, linkPlace, linkOf}
+use Rattle.image.specs.Entries.{Keyed, Parts, keyIn, numberIn, compareKeyed}
+use Rattle.image.specs.Nodes.{count, nodeAt, linkPlace, linkOf}
 use Rattle.image.specs.Sound.{headerHolds}
-use Rattle.image.specs.Search.{toStop, toGoDown, searched, standing, passed}
+use Rattle.image.specs.Search.{OnEqual, toStop, toGoDown, searched, standing, passed}
 use Rattle.image.specs.Refusals.{badImage, badNumber, longKey, noNode, Answer, refused, given, demand, reading, refusalOf}
 
 -- nowhere, or on a node
@@ -41,22 +42,36 @@ pub data EntryMove : Type 0 where
 abbrev pub follow : List ℕ → ℕ → Read Cursor
 follow xs i = check (leb (linkOf xs i 0) (count xs)) (linkPlace xs i 0) (got (cursorAt (linkOf xs i 0)))
 
+-- the end of a move: nowhere, or on a node that can be read whole
+abbrev pub landing : List ℕ → Cursor → Read Cursor
+landing xs nowhere = got nowhere
+landing xs (on i) = bind (nodeAt xs i) (λ m. got (on i))
+
+-- the same behind an entry: a node that does not come after it makes the link at o bad
+abbrev pub landingAfter : List ℕ → Keyed → ℕ → Cursor → Read Cursor
+landingAfter xs k o nowhere = got nowhere
+landingAfter xs k o (on i) = bind (nodeAt xs i) (λ m. check (isLess (compareKeyed xs k (m .parts .keyed))) o (got (on i)))
+
+-- the first node of all
+abbrev pub firstEntry : List ℕ → Read Cursor
+firstEntry xs = bind (follow xs 0) (landing xs)
+
 -- the last node before a key and a number
 abbrev pub lastBefore : List ℕ → List ℕ → ℕ → Read Cursor
-lastBefore xs k n = bind (searched xs toGoDown k n) (λ r. got (cursorAt (passed r)))
+lastBefore xs k n = bind (searched xs toGoDown k n) (λ r. landing xs (cursorAt (passed r)))
 
--- the first node at or after a key and a number
-abbrev pub firstFrom : List ℕ → List ℕ → ℕ → Read Cursor
-firstFrom xs k n = bind (searched xs toStop k n) (λ r. got (cursorAt (standing r)))
+-- the first node that a search does not pass; of one that stops on equality, the first at or after a key and a number
+abbrev pub firstNotPassed : List ℕ → OnEqual → List ℕ → ℕ → Read Cursor
+firstNotPassed xs mode k n = bind (searched xs mode k n) (λ r. landing xs (cursorAt (standing r)))
 
 -- where a move leads from a cursor in the table
 abbrev pub moved : List ℕ → EntryMove → Cursor → Read Cursor
-moved xs first c = follow xs 0
-moved xs (seek k n) c = firstFrom xs k n
-moved xs next nowhere = follow xs 0
-moved xs next (on i) = bind (leadOf xs i) (λ m. follow xs i)
+moved xs first c = firstEntry xs
+moved xs (seek k n) c = firstNotPassed xs toStop k n
+moved xs next nowhere = firstEntry xs
+moved xs next (on i) = bind (nodeAt xs i) (λ m. bind (follow xs i) (landingAfter xs (m .parts .keyed) (linkPlace xs i 0)))
 moved xs previous nowhere = got nowhere
-moved xs previous (on i) = bind (leadOf xs i) (λ m. lastBefore xs (keyIn xs (m .keyed)) (numberIn (m .keyed)))
+moved xs previous (on i) = bind (nodeAt xs i) (λ m. lastBefore xs (keyIn xs (m .parts .keyed)) (numberIn (m .parts .keyed)))
 
 -- what a move demands of its arguments
 abbrev pub allowed {ℓ} : {A : Type ℓ} → EntryMove → Answer A → Answer A

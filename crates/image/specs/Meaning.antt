@@ -5,14 +5,14 @@ use mathlib.Core.List.{List, List·Memᴰ}
 use mathlib.Core.Bool.{Bool, true, false, not}
 use lib.ListN.{length}
 use Rattle.rule.specs.Lists.{none, some, All}
-use Rattle.rule.specs.Order.{Ord, compareEntries, isLess}
+use Rattle.rule.specs.Order.{Ord, less, compareEntries, isLess}
 use Rattle.rule.specs.Entries.{Entry, order, valueKind, deletionKind}
 use Rattle.rule.specs.Rows.{newest}
 use Rattle.image.specs.Limits.{maxKey, maxNumber}
 use Rattle.image.specs.Nodes.{count, entryOf}
 use Rattle.image.specs.Sound.{held}
 use Rattle.image.specs.Lookup.{Looked, found, deleted, absent}
-use Rattle.image.specs.EntryMoves.{Cursor, nowhere, on, EntryMove, first, seek, next, previous}
+use Rattle.image.specs.EntryMoves.{Cursor, nowhere, on, EntryMove, first, seek, next, previous, viewRefusal}
 
 -- i is a node of the table
 pub record IsNode (xs : List ℕ) (i : ℕ) : Type 0 where
@@ -54,3 +54,19 @@ Leads xs next nowhere d = Foremost order (λ e. true) xs d
 Leads xs next (on i) d = Foremost order (λ e. isLess (order (entryOf xs i) e)) xs d
 Leads xs previous nowhere d = d ≡ nowhere
 Leads xs previous (on i) d = Foremost (λ e f. order f e) (λ e. isLess (order e (entryOf xs i))) xs d
+
+-- ---- on any bytes
+
+-- the entry of node j lies onward of where a move started
+abbrev pub Ahead : List ℕ → EntryMove → Cursor → ℕ → Type 0
+Ahead xs first c j = Unit
+Ahead xs (seek k n) c j = isLess (compareEntries ((entryOf xs j) .key) ((entryOf xs j) .number) k n) ≡ false
+Ahead xs next nowhere j = Unit
+Ahead xs next (on i) j = order (entryOf xs i) (entryOf xs j) ≡ less
+Ahead xs previous nowhere j = ⊥
+Ahead xs previous (on i) j = order (entryOf xs j) (entryOf xs i) ≡ less
+
+-- where a move of the entry cursor may end: nowhere, or on a node that can be read whole and lies onward
+abbrev pub Lands : List ℕ → EntryMove → Cursor → Cursor → Type 0
+Lands xs m c nowhere = Unit
+Lands xs m c (on j) = IsNode xs j × (viewRefusal xs (on j) ≡ 0) × Ahead xs m c j

@@ -1,5 +1,5 @@
 -- The newest entry of a key up to a number, with its node for a deletion too, in one table and on any bytes.
-use Prim.Native.Nat.{ℕ}
+use Prim.Native.Nat.{ℕ, _≤_}
 use mathlib.Core.Path.{_≡_}
 use mathlib.Core.List.{List}
 use Rattle.rule.specs.Lists.{none, some}
@@ -10,6 +10,7 @@ use Rattle.image.specs.Sound.{headerHolds, held}
 use Rattle.image.specs.Search.{toStop, searched, standing}
 use Rattle.image.specs.Refusals.{Answer, given, damaged, demand, reading}
 use Rattle.image.specs.Lookup.{Looked, found, deleted, absent, saidAt}
+use Rattle.image.specs.EntryMoves.{on, viewRefusal}
 use Rattle.image.specs.Meaning.{IsNode}
 
 -- the node of a value, the node of a deletion, or that there is none
@@ -40,8 +41,16 @@ NewestIs xs k s (value i) = NewestOn xs k s valueKind i
 NewestIs xs k s (deletion i) = NewestOn xs k s deletionKind i
 NewestIs xs k s nothing = newest k s (held xs) ≡ none
 
--- the answer names a node of the table, or none
-abbrev pub NewestIn : List ℕ → NewestAt → Type 0
-NewestIn xs (value i) = IsNode xs i
-NewestIn xs (deletion i) = IsNode xs i
-NewestIn xs nothing = Unit
+-- what the answer means on any bytes: node i can be read whole, and has an entry of k up to s, of this type
+pub record NewestLands (xs k : List ℕ) (s kind i : ℕ) : Type 0 where
+  pub node : IsNode xs i
+  pub readable : viewRefusal xs (on i) ≡ 0
+  pub key-is : (entryOf xs i) .key ≡ k
+  pub number-most : (entryOf xs i) .number ≤ s
+  pub kind-is : (entryOf xs i) .kind ≡ kind
+
+-- the same of the answer
+abbrev pub NewestLandsOn : List ℕ → List ℕ → ℕ → NewestAt → Type 0
+NewestLandsOn xs k s (value i) = NewestLands xs k s valueKind i
+NewestLandsOn xs k s (deletion i) = NewestLands xs k s deletionKind i
+NewestLandsOn xs k s nothing = Unit

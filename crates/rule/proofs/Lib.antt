@@ -3,4 +3,5 @@ pub mod Order
 pub mod Rows
 pub mod Moves
 pub mod Nearest
+pub mod Scans
 pub mod Worked

@@ -1,27 +1,27 @@
 -- The ways out of fresh and of an addition.
-use Prim.Native.Nat.{ℕ, suc, _+_, _<_, _≤_}
+use Prim.Native.Nat.{ℕ, _<_, _≤_}
 use native.Mathlib.Omega.{arith}
 use native.Mathlib.Numerals.{add-one}
-use mathlib.Core.Path.{_≡_, refl, sym, ap, _∙_}
-use mathlib.Core.List.{List, []}
+use mathlib.Core.Path.{_≡_, sym, ap, _∙_}
+use mathlib.Core.List.{List}
 use mathlib.Core.Bool.{Bool, true, false, not}
 use lib.ListN.{length}
 use lib.Dec.{leb}
 use borrow.Author.Tests.{le-leb, lt-leb, leb-true, not-true, not-false}
-use Rattle.rule.specs.Lists.{both}
 use Rattle.rule.specs.Entries.{Entry}
 use Rattle.image.specs.Limits.{headerSize, maxImage, maxKey, maxValue, maxNumber, levels}
 use Rattle.image.specs.Nodes.{count}
-use Rattle.image.specs.Sound.{Sound, Header, headerHolds}
-use Rattle.image.specs.Search.{toStop, searched}
-use Rattle.image.specs.Refusals.{badImage, badKind, badNumber, longKey, longValue, badHeight, Answer, refused, given, reading}
+use Rattle.image.specs.Sound.{Sound, headerHolds}
+use Rattle.image.specs.Refusals.{badImage, badKind, badNumber, longKey, longValue, badHeight, Answer, refused}
 use Rattle.image.specs.Fresh.{freshImage, fresh}
-use Rattle.image.specs.Add.{Grown, placed, add, afterwards}
-use Rattle.image.proofs.Sound.{header-sound}
+use Rattle.image.specs.Add.{Grown, add, afterwards}
 use Rattle.image.proofs.Fresh.{fresh-sound, fresh-holds-nothing}
-use Rattle.image.proofs.Add.{Allowed, add-searches, add-added, add-undamaged}
+use Rattle.image.proofs.Add.{add-searches, add-added, add-undamaged}
 use Rattle.table.specs.Refusals.{refusalIs}
+use Rattle.table.specs.Nodes.{Framed}
 use Rattle.table.specs.Insert.{Insertable, insertedAs, Inserts}
+use Rattle.table.proofs.NodeBytes.{framed-holds}
+use Rattle.table.specs.declared.nodes.Frame.{Frame}
 use Rattle.table.specs.Memtable.{Freshens, addedAs, AddRule, Adds}
 use Rattle.table.specs.declared.refusals.Refusal.{Refusal}
 use Rattle.table.specs.declared.refusals.Refusal.the-variants as refusal
@@ -63,19 +63,19 @@ pub adds-refused : (xs : List ℕ) (e : Entry) (h : ℕ) (q : Refusal) → refus
 adds-refused xs e h q f = adds xs e h (added.Refused q) xs f (rw (← f))
 
 -- an insertion's answer under another name
-pub adds-inserted : (xs : List ℕ) (e : Entry) (h : ℕ) (a : Inserted) (r : Added) (ys : List ℕ) → Insertable xs e h → Inserts xs e h a ys → ((zs : List ℕ) → addedAs r zs ≡ insertedAs a zs) → Adds xs e h r ys
-adds-inserted xs e h a r ys ok i f = let whole = add-searches xs e h (ok .header) (record { legal = ok .legal; low = ok .height-some; high = ok .height-most }) in
+pub adds-inserted : (xs : List ℕ) (e : Entry) (h : ℕ) (a : Inserted) (r : Added) (ys : List ℕ) {f : Frame} → Insertable xs f e h → Inserts xs e h a ys → ((zs : List ℕ) → addedAs r zs ≡ insertedAs a zs) → Adds xs e h r ys
+adds-inserted xs e h a r ys ok i f = let whole = add-searches xs e h (ok .framed .header) (record { legal = ok .legal; low = ok .height-some; high = ok .height-most }) in
     adds xs e h r ys (f ys ∙ i .exact ∙ sym whole) (i .bytes ∙ ap (afterwards xs) (sym whole))
 
 -- the tests in their order
-module _ (xs : List ℕ) (e : Entry) (h : ℕ) {b : Bool} (header : b ≡ headerHolds xs) where
-  pub at-header : not b ≡ true → refused badImage ≡ add xs e h
+module _ (xs : List ℕ) (e : Entry) (h : ℕ) where
+  pub at-header : headerHolds xs ≡ false → refused badImage ≡ add xs e h
   unfolding add
-  at-header t = rw (sym header ∙ not-true b t)
+  at-header t = rw t
 
-  module _ (good : not b ≡ false) {c : Bool} (kind : c ≡ leb (e .kind) 1) where
+  module _ {f : Frame} (framed : Framed xs f) {c : Bool} (kind : c ≡ leb (e .kind) 1) where
     holds : headerHolds xs ≡ true
-    holds = sym header ∙ not-false b good
+    holds = framed-holds xs framed
 
     pub at-kind : not c ≡ true → refused badKind ≡ add xs e h
     unfolding add
@@ -112,9 +112,9 @@ module _ (xs : List ℕ) (e : Entry) (h : ℕ) {b : Bool} (header : b ≡ header
               unfolding add
               at-tall t = rw (holds, kinded, numbered, le-leb (length (e .key)) maxKey short, le-leb (length (e .value)) maxValue small, le-leb 1 h some, lt-leb h levels t)
 
-              pub allowed : h ≤ levels → Insertable xs e h
+              pub allowed : h ≤ levels → Insertable xs f e h
               allowed most = record {
-                header = header-sound xs holds;
+                framed = framed;
                 legal = record { key-short = short; value-short = small; number-low = leb-true (e .number) maxNumber numbered; kind-known = leb-true (e .kind) 1 kinded };
                 height-some = some;
                 height-most = most;

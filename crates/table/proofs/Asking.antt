@@ -2,23 +2,26 @@
 use Prim.Native.Nat.{ℕ}
 use mathlib.Core.Path.{_≡_, refl, sym, _∙_}
 use mathlib.Core.List.{List}
-use mathlib.Core.Bool.{Bool, true, false, not}
-use borrow.Author.Tests.{not-true, not-false}
+use mathlib.Core.Bool.{true, false}
+use Rattle.image.specs.Words.{Bytes}
 use Rattle.image.specs.Readers.{got, bad}
 use Rattle.image.specs.Sound.{headerHolds}
 use Rattle.image.specs.Search.{toStop, Found, searched, standing}
 use Rattle.image.specs.Refusals.{damaged, Answer, refused, given, reading}
 use Rattle.image.specs.Lookup.{Looked, saidAt}
 use Rattle.image.specs.EntryMoves.{Cursor}
-use Rattle.image.specs.Meaning.{Stands}
-use Rattle.image.specs.Cuts.{Cut, nearAt, nearest}
-use Rattle.image.specs.Newest.{NewestAt as NewestAtIs, withNode, newestAt, NewestIn}
-use Rattle.image.proofs.Nearest.{nearest-right, nearest-in}
-use Rattle.image.proofs.Newest.{newest-right, newest-in}
+use Rattle.image.specs.Cuts.{Cut, nearAt, nearest, NearLands}
+use Rattle.image.specs.Newest.{NewestAt as NewestAtIs, withNode, newestAt, NewestLandsOn}
+use Rattle.image.proofs.Nearest.{nearest-right}
+use Rattle.image.proofs.Newest.{newest-right}
+use Rattle.image.proofs.Landing.{near-lands, newest-lands}
+use Rattle.table.specs.Nodes.{Framed}
 use Rattle.table.specs.Memtable.{andThen}
-use Rattle.table.specs.Questions.{IfGiven, hitAs, Nears, newestAs, TellsNewest}
+use Rattle.table.specs.Questions.{IfGiven, nodesOf, hitAs, Nears, newestAs, TellsNewest}
 use Rattle.table.specs.declared.questions.Hit.{Hit}
 use Rattle.table.specs.declared.questions.NewestAt.{NewestAt}
+use Rattle.table.specs.declared.nodes.Frame.{Frame}
+use Rattle.table.proofs.NodeBytes.{framed-holds}
 use Rattle.table.proofs.Lookups.{read-on}
 
 -- ---- what an answer means follows from what it is
@@ -27,34 +30,42 @@ if-given {ℓ} : {A : Type ℓ} (P : A → Type 0) (a : Answer A) → ((b : A) �
 if-given P (given b) h = h b refl
 if-given P (refused q) h = tt
 
-pub nears : (xs : List ℕ) (c : Cut) (t : List ℕ) (r : Hit) → hitAs r ≡ nearest xs c t → Nears xs c t r
-nears xs c t r e = record {
+pub nears : (xs : List ℕ) (c : Cut) (t : List ℕ) (r : Hit) → Bytes xs → hitAs r ≡ nearest xs c t → Nears xs c t r
+nears xs c t r b e = record {
   exact = e;
   rule = λ s. let (d, f, n) = nearest-right xs s c t in rw (e, f) n;
-  range = if-given (Stands xs) (hitAs r) (λ d f. nearest-in xs c t d (sym e ∙ f));
+  lands = if-given (NearLands xs c t) (hitAs r) (λ d f. near-lands xs b c t d (sym e ∙ f));
 }
 
-pub tells-newest : (xs k : List ℕ) (s : ℕ) (r : NewestAt) → newestAs r ≡ newestAt xs k s → TellsNewest xs k s r
-tells-newest xs k s r e = record {
+pub tells-newest : (xs k : List ℕ) (s : ℕ) (r : NewestAt) → Bytes xs → newestAs r ≡ newestAt xs k s → TellsNewest xs k s r
+tells-newest xs k s r b e = record {
   exact = e;
   rule = λ sound. let (v, f, n) = newest-right xs sound k s in rw (e, f) n;
-  range = if-given (NewestIn xs) (newestAs r) (λ v f. newest-in xs k s v (sym e ∙ f));
+  lands = if-given (NewestLandsOn xs k s) (newestAs r) (λ v f. newest-lands xs b k s v (sym e ∙ f));
 }
+
+-- ---- the count
+
+pub nodes-read : (xs : List ℕ) {f : Frame} → Framed xs f → f .count ≡ nodesOf xs
+nodes-read xs f = rw (framed-holds xs f) (f .count-is)
+
+pub nodes-none : (xs : List ℕ) → headerHolds xs ≡ false → 0 ≡ nodesOf xs
+nodes-none xs h = rw h
 
 -- ---- each way out; the header is tested first
 
-module _ (xs : List ℕ) {b : Bool} (header : b ≡ headerHolds xs) where
-  pub near-header : (c : Cut) (t : List ℕ) → not b ≡ true → refused damaged ≡ nearest xs c t
+module _ (xs : List ℕ) where
+  pub near-header : (c : Cut) (t : List ℕ) → headerHolds xs ≡ false → refused damaged ≡ nearest xs c t
   unfolding nearest
-  near-header c t h = rw (sym header ∙ not-true b h)
+  near-header c t h = rw h
 
-  pub newest-header : (k : List ℕ) (s : ℕ) → not b ≡ true → refused damaged ≡ newestAt xs k s
+  pub newest-header : (k : List ℕ) (s : ℕ) → headerHolds xs ≡ false → refused damaged ≡ newestAt xs k s
   unfolding newestAt
-  newest-header k s h = rw (sym header ∙ not-true b h)
+  newest-header k s h = rw h
 
-  module _ (good : not b ≡ false) where
+  module _ {f : Frame} (framed : Framed xs f) where
     holds : headerHolds xs ≡ true
-    holds = sym header ∙ not-false b good
+    holds = framed-holds xs framed
 
     pub near-at : (c : Cut) (t : List ℕ) {a : Answer Cursor} → a ≡ reading (nearAt xs c t) given → a ≡ nearest xs c t
     unfolding nearest

@@ -1,18 +1,19 @@
 -- Entries as code writes and reads them: each way out of the code.
 use Prim.Native.Nat.{ℕ, _+_, _-_, _%_, _<_, _≤_}
 use native.Mathlib.Omega.{arith}
-use mathlib.Core.Path.{_≡_, sym, _∙_}
+use mathlib.Core.Path.{_≡_, sym, ap, _∙_}
 use mathlib.Core.List.{List, _++_}
 use mathlib.Core.Bool.{Bool, true, false, not}
 use lib.ListN.{length}
 use lib.Seq.{sets}
 use lib.Dec.{leb}
 use borrow.Author.Tests.{lt-ltb, le-ltb, le-leb, lt-leb, leb-true, leb-false, eq-eqb, ne-eqb, not-true, not-false}
+use Rattle.rule.specs.Order.{Ord, compareEntries, isLess}
 use Rattle.rule.specs.Entries.{Entry}
 use Rattle.image.specs.Limits.{maxKey, maxValue}
 use Rattle.image.specs.Words.{fixed, bytes}
 use Rattle.image.specs.Readers.{got, bad}
-use Rattle.image.specs.Entries.{varint, tag, encode, lenAt, Keyed, keyedAt, restAt}
+use Rattle.image.specs.Entries.{varint, tag, encode, lenAt, Keyed, keyedAt, restAt, keyIn, numberIn, compareKeyed}
 use Rattle.image.proofs.Words.{sets-append}
 use Rattle.image.proofs.Entries.{length-encode}
 use Rattle.table.specs.Entries.{EntrySize, Writable}
@@ -116,3 +117,9 @@ module _ (xs : List ℕ) (end : ℕ) (k : Keyed) where
           pub rest-whole : end ≤ a + n → got (record { keyed = k; valueAt = a; valueLen = n }) ≡ restAt xs end k
           unfolding restAt
           rest-whole h = rw (lt-ltb (k .tagIs % 256) 2 known, ← second, le-leb n maxValue most, le-leb (a + n) end inside, eq-eqb (a + n) end (omega arith))
+
+-- ---- compared
+
+-- two entries by their keys and numbers, where they stand
+pub less-by : (xs : List ℕ) (k l : Keyed) {a b : List ℕ} {m n : ℕ} → a ≡ keyIn xs k → m ≡ numberIn k → b ≡ keyIn xs l → n ≡ numberIn l → {o : Ord} → o ≡ compareEntries a m b n → isLess o ≡ isLess (compareKeyed xs k l)
+less-by xs k l ka km lb ln e = ap isLess e ∙ rw (ka, km, lb, ln)

@@ -3,21 +3,20 @@ use Prim.Native.Nat.{ℕ, zero, suc, _+_, _-_, _*_, _<_, _≤_}
 use native.Mathlib.Omega.{arith}
 use mathlib.Core.Path.{_≡_, refl, sym, ap, _∙_}
 use mathlib.Core.List.{List, [], _∷_, _++_}
-use native.Mathlib.Decide.{ℕ-discrete}
 use native.Mathlib.Numerals.{add-one}
 use lib.ListN.{length, getD, set, take, drop, replicate, length-set, take-append-drop}
 use lib.Seq.{sets, getD-set-same, getD-set-other, length-take-le}
+use native.Mathlib.Decide.{ℕ-discrete}
 use Rattle.rule.specs.Entries.{Entry}
 use Rattle.image.specs.Words.{bytes, word, putWord, putWords}
 use Rattle.image.specs.Limits.{headerSize, levels}
 use Rattle.image.specs.Entries.{encode}
-use Rattle.image.specs.Nodes.{count, free, entryPlace, sizeOf, linksAt, linkPlace, linkOf}
-use Rattle.image.specs.Fresh.{freshHeader, freshImage}
-use Rattle.image.specs.Add.{nodeWritten, written, withEntry}
-use Rattle.image.proofs.Words.{sets-append, putWords-ext}
+use Rattle.image.specs.Nodes.{entryPlace, sizeOf}
+use Rattle.image.specs.Fresh.{freshImage}
+use Rattle.image.specs.Add.{nodeWritten, written}
+use Rattle.image.proofs.Words.{sets-append, length-putWord, putWords-ext}
 use Rattle.image.proofs.Write.{node-behind}
-use Rattle.table.specs.declared.insert.Joins.{Joins}
-use Rattle.table.specs.Insert.{Joinable, Joined}
+use Rattle.table.specs.Insert.{LinksRead}
 
 -- four words and the links, each behind the one before
 pub header-written : (xs : List ℕ) (size : ℕ) (x1 x2 x3 x4 x5 zeros : List ℕ) → size ≡ length xs → x1 ≡ putWord xs 0 size → x2 ≡ putWord x1 4 0 → x3 ≡ putWord x2 8 headerSize → x4 ≡ putWord x3 12 levels → zeros ≡ replicate 48 0 → x5 ≡ sets x4 16 zeros → x5 ≡ freshImage xs
@@ -53,41 +52,6 @@ node-put-together xs h size e links x1 x2 x3 x4 most s e1 e2 e3 e4 =
     e4 ∙ ap (λ (r : List ℕ). sets r (8 + 4 * h) (encode e)) (e3 ∙ putWords-ext x2 (λ l. getD (spaced 8 12) l 0) (λ l. 0 + 8 + 4 * l) (λ l. getD links l 0) (λ l. getD links l 0) h (λ l k. spaced-at 8 12 l (omega arith)) (λ l k. refl)
     ∙ ap (λ (r : List ℕ). putWords r (λ l. 0 + 8 + 4 * l) (λ l. getD links l 0) h) (e2 ∙ rw (e1, s)))
 
--- ---- the links that are to lead to a new node, gathered level by level
-
-pub record Joining (xs prev : List ℕ) (height : ℕ) (places links : List ℕ) (l : ℕ) : Type 0 where
-  pub asked : Joinable xs prev height
-  pub so-far : l ≤ height
-  pub places-wide : length places ≡ 12
-  pub links-wide : length links ≡ 12
-  pub places-are : (i : ℕ) → i < l → getD places i 0 ≡ linkPlace xs (getD prev i 0) i
-  pub links-are : (i : ℕ) → i < l → getD links i 0 ≡ linkOf xs (getD prev i 0) i
-
-pub joining-start : (xs prev : List ℕ) (height : ℕ) → Joinable xs prev height → Joining xs prev height (replicate 12 0) (replicate 12 0) 0
-joining-start xs prev height a = record { asked = a; so-far = omega arith; places-wide = refl; links-wide = refl; places-are = λ i h. absurd (omega arith); links-are = λ i h. absurd (omega arith) }
-
--- what is known of each index below l, with one more
-one-more : (ys : List ℕ) (l v : ℕ) (f : ℕ → ℕ) → l < length ys → ((i : ℕ) → i < l → getD ys i 0 ≡ f i) → v ≡ f l → (i : ℕ) → i < l + 1 → getD (set ys l v) i 0 ≡ f i
-one-more ys l v f b h e i k = go (ℕ-discrete i l)
-  where
-    go : Dec (i ≡ l) → getD (set ys l v) i 0 ≡ f i
-    go (yes z) = rw (z, getD-set-same ys l v 0 b) e
-    go (no z) = getD-set-other ys l i v 0 z ∙ h i (omega arith)
-
-pub joining-next : (xs prev : List ℕ) (height : ℕ) (places links : List ℕ) (l start w : ℕ) → Joining xs prev height places links l → l < height → start ≡ linksAt xs (getD prev l 0) → w ≡ word xs (start + 4 * l) → Joining xs prev height (set places l (start + 4 * l)) (set links l w) (l + 1)
-unfolding linkOf
-joining-next xs prev height places links l start w j h e f = let most = j .asked .height-most in record {
-  asked = j .asked;
-  so-far = omega arith;
-  places-wide = length-set places l (start + 4 * l) ∙ j .places-wide;
-  links-wide = length-set links l w ∙ j .links-wide;
-  places-are = one-more places l (start + 4 * l) (λ i. linkPlace xs (getD prev i 0) i) (omega (arith, j .places-wide)) (j .places-are) (ap (λ (o : ℕ). o + 4 * l) e);
-  links-are = one-more links l w (λ i. word xs (linkPlace xs (getD prev i 0) i)) (omega (arith, j .links-wide)) (j .links-are) (f ∙ ap (λ (o : ℕ). word xs (o + 4 * l)) e);
-}
-
-pub joining-done : (xs prev : List ℕ) (height : ℕ) (places links : List ℕ) (l : ℕ) → Joining xs prev height places links l → height ≤ l → Joined xs prev height (record { places = places; links = links })
-joining-done xs prev height places links l j h = record { places-are = λ i k. j .places-are i (omega arith); links-are = λ i k. j .links-are i (omega arith) }
-
 -- ---- an entry put in
 
 repeated : (n v l : ℕ) → l < n → getD (replicate n v) l 0 ≡ v
@@ -100,25 +64,50 @@ node-links : (xs : List ℕ) (o h : ℕ) (e : Entry) (f g : ℕ → ℕ) → ((l
 unfolding nodeWritten
 node-links xs o h e f g same = ap (λ (r : List ℕ). sets r (entryPlace o h) (encode e)) (putWords-ext (putWord (putWord xs o h) (o + 4) (length (encode e))) (λ l. o + 8 + 4 * l) (λ l. o + 8 + 4 * l) f g h (λ l k. refl) same)
 
--- the node in the free part, its slot, the links to it, n and F
-pub entry-put-in : (xs prev : List ℕ) (h node used size : ℕ) (e : Entry) (r : Joins) (x1 x2 x3 x4 x5 : List ℕ) → h ≤ levels → node ≡ count xs + 1 → used ≡ free xs → used ≤ length xs → size ≡ length (encode e) → Joined xs prev h r
-    → x1 ≡ take used xs ++ nodeWritten (drop used xs) 0 h e (λ l. getD (r .links) l 0) → x2 ≡ putWord x1 (length xs - 4 * node) used → x3 ≡ putWords x2 (λ l. getD (r .places) l 0) (λ l. getD (replicate 12 node) l 0) h
-    → x4 ≡ putWord x3 4 node → x5 ≡ putWord x4 8 (used + 8 + 4 * h + size) → x5 ≡ withEntry xs e h prev
+-- what is written counts only below the height
+pub written-same : (xs : List ℕ) (n o h : ℕ) (e : Entry) (f g p q : ℕ → ℕ) → ((l : ℕ) → l < h → f l ≡ g l) → ((l : ℕ) → l < h → p l ≡ q l) → written xs n o h e f p ≡ written xs n o h e g q
 unfolding written
-entry-put-in xs prev h node used size e r x1 x2 x3 x4 x5 most n u fits s j e1 e2 e3 e4 e5 =
-    e5 ∙ rw (e4, e3, end)
-    (ap (λ (t : List ℕ). putWord (putWord t 4 node) 8 (used + sizeOf h e)) (putWords-ext x2 (λ l. getD (r .places) l 0) (λ l. linkPlace xs (getD prev l 0) l) (λ l. getD (replicate 12 node) l 0) (λ l. node) h (j .places-are) (λ l k. repeated 12 node l (omega arith))
-    ∙ ap (λ (t : List ℕ). putWords t (λ l. linkPlace xs (getD prev l 0) l) (λ l. node) h) (e2 ∙ ap (λ (t : List ℕ). putWord t (length xs - 4 * node) used) (e1 ∙ placed)))
-    ∙ rw (one, u))
+written-same xs n o h e f g p q links places =
+    ap (λ (r : List ℕ). putWord (putWords (putWord r (length xs - 4 * suc n) o) p (λ l. suc n) h) 4 (suc n)) (node-links (putWord xs 8 (o + sizeOf h e)) o h e f g links)
+    ∙ ap (λ (r : List ℕ). putWord r 4 (suc n)) (putWords-ext (putWord (nodeWritten (putWord xs 8 (o + sizeOf h e)) o h e g) (length xs - 4 * suc n) o) p q (λ l. suc n) (λ l. suc n) h places (λ l k. refl))
+
+-- F, the node in the free part, its slot, the links to it, and n; the node has the links that were read
+pub entry-put-in : (xs : List ℕ) (h n used size : ℕ) (e : Entry) (places links : List ℕ) (x0 x1 x2 x3 x4 : List ℕ) → h ≤ levels → used ≤ length xs → size ≡ length (encode e) → LinksRead xs places h links
+    → x0 ≡ putWord xs 8 (used + 8 + 4 * h + size) → x1 ≡ take used x0 ++ nodeWritten (drop used x0) 0 h e (λ l. getD links l 0) → x2 ≡ putWord x1 (length xs - 4 * (n + 1)) used
+    → x3 ≡ putWords x2 (λ l. getD places l 0) (λ l. getD (replicate 12 (n + 1)) l 0) h → x4 ≡ putWord x3 4 (n + 1) → x4 ≡ written xs n used h e (λ l. word xs (getD places l 0)) (λ l. getD places l 0)
+unfolding written
+entry-put-in xs h n used size e places links x0 x1 x2 x3 x4 most fits s read e0 e1 e2 e3 e4 =
+    e4 ∙ ap (λ (t : List ℕ). putWord t 4 (n + 1)) (e3 ∙ putWords-ext x2 (λ l. getD places l 0) (λ l. getD places l 0) (λ l. getD (replicate 12 (n + 1)) l 0) (λ l. n + 1) h (λ l k. refl) (λ l k. repeated 12 (n + 1) l (omega arith)))
+    ∙ ap (λ (t : List ℕ). putWord (putWords t (λ l. getD places l 0) (λ l. n + 1) h) 4 (n + 1)) (e2 ∙ ap (λ (t : List ℕ). putWord t (length xs - 4 * (n + 1)) used) (e1 ∙ placed))
+    ∙ rw (add-one n)
   where
-    one : node ≡ suc (count xs)
-    one = n ∙ add-one (count xs)
+    start : x0 ≡ putWord xs 8 (used + sizeOf h e)
+    start = let end : used + 8 + 4 * h + size ≡ used + sizeOf h e = rw s (omega arith) in e0 ∙ rw end
 
-    end : used + 8 + 4 * h + size ≡ used + sizeOf h e
-    end = rw s (omega arith)
+    front : length (take used x0) ≡ used
+    front = length-take-le used x0 (omega (arith, ap length e0, length-putWord xs 8 (used + 8 + 4 * h + size)))
 
-    front : length (take used xs) ≡ used
-    front = length-take-le used xs fits
+    placed : take used x0 ++ nodeWritten (drop used x0) 0 h e (λ l. getD links l 0) ≡ nodeWritten (putWord xs 8 (used + sizeOf h e)) used h e (λ l. word xs (getD places l 0))
+    placed = sym (node-behind (take used x0) (drop used x0) h e (λ l. getD links l 0)) ∙ rw (front, take-append-drop used x0, start)
+        (node-links (putWord xs 8 (used + sizeOf h e)) used h e (λ l. getD links l 0) (λ l. word xs (getD places l 0)) (read .links-are))
 
-    placed : take used xs ++ nodeWritten (drop used xs) 0 h e (λ l. getD (r .links) l 0) ≡ nodeWritten xs used h e (λ l. linkOf xs (getD prev l 0) l)
-    placed = sym (node-behind (take used xs) (drop used xs) h e (λ l. getD (r .links) l 0)) ∙ rw (front, take-append-drop used xs) (node-links xs used h e (λ l. getD (r .links) l 0) (λ l. linkOf xs (getD prev l 0) l) (j .links-are))
+-- ---- the links, read level by level
+
+-- those below l have been read
+pub record Reading (xs places : List ℕ) (height : ℕ) (links : List ℕ) (l : ℕ) : Type 0 where
+  pub so-far : l ≤ height
+  pub room : length links ≡ 12
+  pub links-are : (i : ℕ) → i < l → getD links i 0 ≡ word xs (getD places i 0)
+
+pub reading-starts : (xs places : List ℕ) (height : ℕ) → Reading xs places height (replicate 12 0) 0
+reading-starts xs places height = record { so-far = omega arith; room = refl; links-are = λ i h. absurd (omega arith) }
+
+pub reading-next : (xs places : List ℕ) (height : ℕ) (links : List ℕ) (l v : ℕ) → Reading xs places height links l → height ≤ levels → l < height → v ≡ word xs (getD places l 0) → Reading xs places height (set links l v) (l + 1)
+reading-next xs places height links l v r most h e = record { so-far = omega arith; room = length-set links l v ∙ r .room; links-are = λ i k. go i k (ℕ-discrete i l) }
+  where
+    go : (i : ℕ) → i < l + 1 → Dec (i ≡ l) → getD (set links l v) i 0 ≡ word xs (getD places i 0)
+    go i k (yes z) = rw (z, getD-set-same links l v 0 (omega (arith, r .room))) e
+    go i k (no z) = getD-set-other links l i v 0 z ∙ r .links-are i (omega arith)
+
+pub reading-ends : (xs places : List ℕ) (height : ℕ) (links : List ℕ) (l : ℕ) → Reading xs places height links l → height ≤ l → LinksRead xs places height links
+reading-ends xs places height links l r h = record { links-are = λ i k. r .links-are i (omega arith) }

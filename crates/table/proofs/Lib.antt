@@ -19,3 +19,4 @@ pub mod Presences
 pub mod OneAnswer
 pub mod Laws
 pub mod Growth
+pub mod Scans

@@ -6,27 +6,28 @@ use mathlib.Core.List.{List}
 use mathlib.Core.Bool.{Bool, true, false, not}
 use lib.ListN.{length}
 use lib.Dec.{leb, eqb}
-use borrow.Author.Tests.{lt-leb, le-leb, leb-true, eq-eqb, ne-eqb, not-true, not-false}
+use borrow.Author.Tests.{lt-leb, le-leb, eq-eqb, ne-eqb, not-true, not-false}
 use Rattle.rule.specs.Lists.{cond}
 use Rattle.rule.specs.Order.{compareKeys, isEqual}
 use Rattle.rule.specs.Entries.{valueKind}
 use Rattle.image.specs.Limits.{maxKey, maxNumber}
-use Rattle.image.specs.Readers.{Read, got, bad, bind}
+use Rattle.image.specs.Readers.{Read, got, bad}
 use Rattle.image.specs.Entries.{keyIn}
-use Rattle.image.specs.Nodes.{count, free, slot, Node, nodeAt}
+use Rattle.image.specs.Nodes.{free, slot, Node, nodeAt}
 use Rattle.image.specs.Sound.{Header, headerHolds}
-use Rattle.image.specs.Search.{toStop, Found, hit, ends, searched}
-use Rattle.image.specs.Refusals.{badImage, badKind, badNumber, longKey, damaged, Answer, refused, given, reading}
+use Rattle.image.specs.Search.{OnEqual, toStop, hit, ends, searched}
+use Rattle.image.specs.Refusals.{badImage, badNumber, longKey, damaged, Answer, refused, given, reading}
 use Rattle.image.specs.Lookup.{Looked, found, deleted, absent, Lookup, saidAt, get}
-use Rattle.image.proofs.Sound.{header-sound}
 use Rattle.image.proofs.Nodes.{node-inside}
 use Rattle.image.proofs.Spots.{search-stopped, search-ended}
 use Rattle.image.proofs.Lookup.{get-tells}
-use Rattle.table.specs.Skipmap.{spotRead, searchRead}
-use Rattle.table.specs.Memtable.{InTable, andThen, lookupAs, Gets}
+use Rattle.table.specs.Nodes.{Framed, Numbered, InTable}
+use Rattle.table.specs.Skipmap.{spotRead, Searches}
+use Rattle.table.specs.Memtable.{andThen, lookupAs, Gets}
+use Rattle.table.specs.declared.nodes.Frame.{Frame}
 use Rattle.table.specs.declared.skipmap.Searched.{Searched}
 use Rattle.table.specs.declared.skipmap.Spot.{Spot}
-use Rattle.table.specs.declared.skipmap.Spot.the-variants.{Hit, Ends, Bad}
+use Rattle.table.specs.declared.skipmap.Spot.the-variants.{Hit, Ends}
 use Rattle.table.specs.declared.memtable.Lookup.{Lookup as LookupAnswer}
 
 -- key and value of a node that was read lie in the image
@@ -71,15 +72,12 @@ read-on (bad o) f p q = q ∙ rw p
 
 -- ---- the tests of a lookup in their order
 
-module _ (xs k : List ℕ) (s : ℕ) {b : Bool} (header : b ≡ headerHolds xs) where
-  pub get-header : not b ≡ true → refused badImage ≡ get xs k s
+module _ (xs k : List ℕ) (s : ℕ) where
+  pub get-header : headerHolds xs ≡ false → refused badImage ≡ get xs k s
   unfolding get
-  get-header t = rw (sym header ∙ not-true b t)
+  get-header t = rw t
 
-  module _ (good : not b ≡ false) {c : Bool} (number : c ≡ leb s maxNumber) where
-    holds : headerHolds xs ≡ true
-    holds = sym header ∙ not-false b good
-
+  module _ (holds : headerHolds xs ≡ true) {c : Bool} (number : c ≡ leb s maxNumber) where
     pub get-number : not c ≡ true → refused badNumber ≡ get xs k s
     unfolding get
     get-number t = rw (holds, sym number ∙ not-true c t)
@@ -91,9 +89,6 @@ module _ (xs k : List ℕ) (s : ℕ) {b : Bool} (header : b ≡ headerHolds xs) 
       pub get-key : maxKey < length k → refused longKey ≡ get xs k s
       unfolding get
       get-key t = rw (holds, numbered, lt-leb (length k) maxKey t)
-
-      pub get-ready : Header xs
-      get-ready = header-sound xs holds
 
       module _ (short : length k ≤ maxKey) where
         pub get-damaged : {o : ℕ} → bad o ≡ searched xs toStop k s → refused damaged ≡ get xs k s
@@ -117,11 +112,19 @@ pub gets : (xs k : List ℕ) (s : ℕ) (r : LookupAnswer) → lookupAs r ≡ get
 gets xs k s r e = record { exact = e; rule = λ sound low short. let (a, f, t, l) = get-tells xs sound k s low short in (a, e ∙ f, t, l) }
 
 -- where a search ended, by the spot that the code was told
-pub told : (r : Searched) (v : Spot) {f : Read Found} → searchRead r ≡ f → r .spot ≡ v → spotRead v (r .prev) ≡ f
-told r v e s = ap (λ (t : Spot). spotRead t (r .prev)) (sym s) ∙ e
+module _ {xs : List ℕ} {mode : OnEqual} {k : List ℕ} {s : ℕ} {r : Searched} (q : Searches xs mode k s r) where
+  pub told : (v : Spot) → r .spot ≡ v → spotRead v (q .prev) ≡ searched xs mode k s
+  told v e = ap (λ (t : Spot). spotRead t (q .prev)) (sym e) ∙ q .exact
 
-pub hit-in : (xs k : List ℕ) (s : ℕ) {x looks : ℕ} → Header xs → got (hit x looks) ≡ searched xs toStop k s → InTable xs x
-hit-in xs k s h e = record { header = h; most = (search-stopped xs toStop k s e) .most }
+  module _ {f : Frame} (framed : Framed xs f) where
+    pub hit-in : {x looks : ℕ} → r .spot ≡ Hit x looks → InTable xs f x
+    hit-in {x} {looks} e = record { framed = framed; most = omega (arith, (search-stopped xs mode k s (told (Hit x looks) e)) .most, framed .count-is) }
 
-pub end-in : (xs k : List ℕ) (s : ℕ) {p x looks : ℕ} {prev : List ℕ} → Header xs → got (ends p x looks prev) ≡ searched xs toStop k s → InTable xs x
-end-in xs k s h e = record { header = h; most = (search-ended xs toStop k s e) .after-most }
+    pub hit-numbered : {x looks : ℕ} → r .spot ≡ Hit x looks → Numbered xs f x
+    hit-numbered {x} {looks} e = let h = search-stopped xs mode k s (told (Hit x looks) e) in record { framed = framed; some = h .some; most = omega (arith, h .most, framed .count-is) }
+
+    pub after-in : {p x looks : ℕ} → r .spot ≡ Ends p x looks → InTable xs f x
+    after-in {p} {x} {looks} e = record { framed = framed; most = omega (arith, (search-ended xs mode k s (told (Ends p x looks) e)) .after-most, framed .count-is) }
+
+    pub before-in : {p x looks : ℕ} → r .spot ≡ Ends p x looks → InTable xs f p
+    before-in {p} {x} {looks} e = record { framed = framed; most = omega (arith, (search-ended xs mode k s (told (Ends p x looks) e)) .before-most, framed .count-is) }

@@ -1,41 +1,42 @@
 -- Header and nodes as code reads them: each way out of the code.
-use Prim.Native.Nat.{ℕ, zero, suc, _+_, _*_, _<_, _≤_}
+use Prim.Native.Nat.{ℕ, _+_, _*_, _<_, _≤_}
 use native.Mathlib.Omega.{arith}
-use mathlib.Core.Path.{_≡_, refl, sym, ap}
+use mathlib.Core.Path.{_≡_, refl, sym, ap, _∙_}
 use mathlib.Core.Logic.{inl, inr}
 use mathlib.Core.List.{List}
 use mathlib.Core.Bool.{Bool, true, false}
 use lib.ListN.{length}
-use lib.Dec.{leb}
-use borrow.Author.Tests.{le-leb, lt-leb, leb-true, leb-false}
+use borrow.Author.Tests.{le-leb, lt-leb}
 use Rattle.image.specs.Limits.{headerSize, maxImage, maxNodes, levels}
 use Rattle.image.specs.Words.{word}
 use Rattle.image.specs.Readers.{Read, got, bad, bind}
 use Rattle.image.specs.Entries.{Keyed, Parts, keyedAt, restAt}
-use Rattle.image.specs.Nodes.{count, free, slot, entryPlace, Lead, leadAt, nodeFrom, linksAt}
+use Rattle.image.specs.Nodes.{count, free, slot, entryPlace, Lead, leadAt, leadOf, Node, nodeFrom, nodeAt, linksAt, linkPlace}
 use Rattle.image.specs.Sound.{Header, headerHolds}
+use Rattle.image.proofs.Readers.{got-same, bind-got}
 use Rattle.image.proofs.Nodes.{lead-bounds, links-node}
 use Rattle.image.proofs.Sound.{header-sound, header-complete}
 use Rattle.image.proofs.Search.{Good}
-use Rattle.table.specs.Nodes.{LinkInside}
+use Rattle.table.specs.Nodes.{Framed}
+use Rattle.table.specs.declared.nodes.Frame.{Frame}
 
 -- ---- the header
 
 -- a test of the header that fails
-pub header-fails : (xs : List ℕ) → (Header xs → ⊥) → false ≡ headerHolds xs
+pub header-fails : (xs : List ℕ) → (Header xs → ⊥) → headerHolds xs ≡ false
 header-fails xs n = go (headerHolds xs) refl
   where
-    go : (t : Bool) → headerHolds xs ≡ t → false ≡ t
+    go : (t : Bool) → headerHolds xs ≡ t → t ≡ false
     go true e = absurd (n (header-sound xs e))
     go false e = refl
 
--- the last test decides, once the others have passed
-pub header-last : (xs : List ℕ) {n used : ℕ} → n ≡ count xs → used ≡ free xs → headerSize ≤ length xs → length xs ≤ maxImage → word xs 0 ≡ length xs → word xs 12 ≡ levels → count xs ≤ maxNodes → headerSize ≤ free xs → leb (used + 4 * n) (length xs) ≡ headerHolds xs
-header-last xs {n} {used} c f long short total leveled few low = go (leb (used + 4 * n) (length xs)) refl
-  where
-    go : (t : Bool) → leb (used + 4 * n) (length xs) ≡ t → t ≡ headerHolds xs
-    go true e = let l = leb-true (used + 4 * n) (length xs) e in sym (header-complete xs (record { long = long; short = short; total = total; leveled = leveled; few = few; low = low; high = omega arith }))
-    go false e = let l = leb-false (used + 4 * n) (length xs) e in header-fails xs (λ h. omega (arith, h .high))
+-- a header that passes every test
+pub header-read : (xs : List ℕ) {n used : ℕ} → n ≡ count xs → used ≡ free xs → headerSize ≤ length xs → length xs ≤ maxImage → word xs 0 ≡ length xs → word xs 12 ≡ levels → n ≤ maxNodes → headerSize ≤ used → used + 4 * n ≤ length xs → Framed xs (record { count = n; free = used })
+header-read xs c f long short total leveled few low high = record { header = record { long = long; short = short; total = total; leveled = leveled; few = omega arith; low = omega arith; high = omega arith }; count-is = c; free-is = f }
+
+-- a header that was read holds
+pub framed-holds : (xs : List ℕ) {f : Frame} → Framed xs f → headerHolds xs ≡ true
+framed-holds xs f = header-complete xs (f .header)
 
 -- ---- the lead of a node
 
@@ -92,11 +93,22 @@ module _ (xs : List ℕ) {r : Read Lead} where
 
 -- ---- links
 
-pub links-head : (xs : List ℕ) (i : ℕ) → i < 1 → linksAt xs i ≡ 16
-links-head xs zero h = refl
-links-head xs (suc i) h = absurd (omega arith)
+-- the links of a node that was read stand behind its first two words
+pub lead-links : (xs : List ℕ) (x : ℕ) {m : Lead} → 1 ≤ x → got m ≡ leadOf xs x → m .start + 8 ≡ linksAt xs x
+lead-links xs x {m} p e = omega (arith, links-node xs x p, (lead-bounds xs (free xs) (slot xs x) m (sym e)) .start-is)
 
 -- the head, or a node tall enough for the level, has a link there
-pub good-inside : (xs : List ℕ) (i level : ℕ) → Header xs → level < levels → Good xs i level → LinkInside xs i level
-good-inside xs i level h b (inl e) = record { slotted = omega arith; inside = omega (arith, ap (linksAt xs) e, h .long) }
-good-inside xs i level h b (inr (p, q, (m, g, c))) = let d = lead-bounds xs (free xs) (slot xs i) m g in record { slotted = omega (arith, h .high, h .low); inside = omega (arith, links-node xs i p, d, h .high) }
+pub good-inside : (xs : List ℕ) (i level : ℕ) → Header xs → level < levels → Good xs i level → linkPlace xs i level + 4 ≤ length xs
+good-inside xs i level h b (inl e) = omega (arith, ap (linksAt xs) e, h .long)
+good-inside xs i level h b (inr (p, q, (m, g, c))) = let d = lead-bounds xs (free xs) (slot xs i) m g in omega (arith, links-node xs i p, d, h .high)
+
+-- the same of a node that was read whole, and its lowest link lies in the image
+node-bounds : (xs : List ℕ) (i : ℕ) {n : Node} → got n ≡ nodeAt xs i → (n .start ≡ slot xs i) × (slot xs i + 12 ≤ free xs)
+node-bounds xs i {n} e = let (m, g, f) = bind-got (leadOf xs i) (nodeFrom xs) n (sym e) in let (p, r, h) = bind-got (restAt xs (m .end) (m .keyed)) (λ q. got (record { start = m .start; height = m .height; parts = q; end = m .end })) n f in
+    let b = lead-bounds xs (free xs) (slot xs i) m g in (ap (λ (q : Node). q .start) (sym (got-same h)) ∙ b .start-is, omega (arith, b .links-inside, b .some-height))
+
+pub node-links : (xs : List ℕ) (i : ℕ) {n : Node} → 1 ≤ i → got n ≡ nodeAt xs i → n .start + 8 ≡ linksAt xs i
+node-links xs i {n} p e = omega (arith, links-node xs i p, (node-bounds xs i e) .0)
+
+pub node-link-inside : (xs : List ℕ) (i : ℕ) {n : Node} → Header xs → got n ≡ nodeAt xs i → n .start + 8 + 4 ≤ length xs
+node-link-inside xs i h e = let (a, b) = node-bounds xs i e in omega (arith, h .high)

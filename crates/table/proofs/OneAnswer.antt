@@ -16,7 +16,9 @@ use Rattle.image.specs.Newest.{NewestAt as NewestAtIs, value, deletion, nothing
 use Rattle.table.specs.Refusals.{refusalIs}
 use Rattle.table.specs.Memtable.{freshenedAs, Freshens, addedAs, Adds, lookupAs, Gets}
 use Rattle.table.specs.Presence.{presenceAs, Contains, ShowsRow}
+use Rattle.table.specs.Nodes.{Framed}
 use Rattle.table.specs.MemtableIter.{cursorIs, Tested, movedAs, HandsBack, Moves}
+use Rattle.table.specs.declared.nodes.Frame.{Frame}
 use Rattle.table.specs.Check.{Checked}
 use Rattle.table.specs.Questions.{hitAs, Nears, newestAs, TellsNewest}
 use Rattle.table.specs.declared.refusals.Refusal.{Refusal}
@@ -167,12 +169,16 @@ move-one xs m c r q a b = sym (back r (a .handed)) ∙ ap (movedFrom c) (a .exac
     back (To d) h = ap {B = EntryMoved} To (cursor-back d)
     back (Refused q d) h = rw (refusal-back q, h)
 
+-- a header is read in one way
+frame-one : (xs : List ℕ) (f g : Frame) → Framed xs f → Framed xs g → f ≡ g
+frame-one xs f g a b = let p : f .count ≡ g .count = a .count-is ∙ sym (b .count-is) in let q : f .free ≡ g .free = a .free-is ∙ sym (b .free-is) in ap {B = Frame} (λ (n : ℕ). record { count = n; free = f .free }) p ∙ ap {B = Frame} (λ (n : ℕ). record { count = g .count; free = n }) q
+
 pub test-one : (xs : List ℕ) (c : Cursor) (r q : CursorTest) → Tested xs c r → Tested xs c q → r ≡ q
-test-one xs c test.Passed test.Passed a b = refl
-test-one xs c test.Passed (test.Failed q) (h, i) (inl (j, _)) = absurd (true≢false (sym h ∙ j))
-test-one xs c test.Passed (test.Failed q) (h, i) (inr (_, j, _)) = absurd (true≢false (sym i ∙ j))
-test-one xs c (test.Failed q) test.Passed (inl (j, _)) (h, i) = absurd (true≢false (sym h ∙ j))
-test-one xs c (test.Failed q) test.Passed (inr (_, j, _)) (h, i) = absurd (true≢false (sym i ∙ j))
+test-one xs c (test.Passed f) (test.Passed g) (_, _, a) (_, _, b) = ap {B = CursorTest} test.Passed (frame-one xs f g a b)
+test-one xs c (test.Passed f) (test.Failed q) (h, i, _) (inl (j, _)) = absurd (true≢false (sym h ∙ j))
+test-one xs c (test.Passed f) (test.Failed q) (h, i, _) (inr (_, j, _)) = absurd (true≢false (sym i ∙ j))
+test-one xs c (test.Failed q) (test.Passed f) (inl (j, _)) (h, i, _) = absurd (true≢false (sym h ∙ j))
+test-one xs c (test.Failed q) (test.Passed f) (inr (_, j, _)) (h, i, _) = absurd (true≢false (sym i ∙ j))
 test-one xs c (test.Failed p) (test.Failed q) a b = ap {B = CursorTest} test.Failed (recovered refusalIs refusalFrom refusal-back p q (go a b))
   where
     go : ((headerHolds xs ≡ false) × (refusalIs p ≡ is.badImage)) ⊎ ((headerHolds xs ≡ true) × (inTable xs c ≡ false) × (refusalIs p ≡ is.noNode)) → ((headerHolds xs ≡ false) × (refusalIs q ≡ is.badImage)) ⊎ ((headerHolds xs ≡ true) × (inTable xs c ≡ false) × (refusalIs q ≡ is.noNode)) → refusalIs p ≡ refusalIs q

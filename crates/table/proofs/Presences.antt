@@ -6,30 +6,28 @@ use mathlib.Core.Logic.{⊎-elim}
 use mathlib.Core.List.{List, [], _∷_}
 use mathlib.Core.Bool.{Bool, true, false, not}
 use lib.ListN.{length}
-use lib.Dec.{leb, eqb}
-use borrow.Author.Tests.{lt-leb, le-leb, leb-true, eq-eqb, ne-eqb, not-true, not-false}
+use lib.Dec.{leb}
+use borrow.Author.Tests.{lt-leb, le-leb, eq-eqb, ne-eqb, not-true, not-false}
 use types.Run.{OneOf}
 use denote.Enum.Declared.{tagOf}
 use Rattle.table.proofs.memtable.Lookup.{the-type}
-use Rattle.rule.specs.Lists.{cond, Maybe, none, some}
-use Rattle.rule.specs.Entries.{Entry, valueKind}
-use Rattle.rule.specs.Rows.{row, shown, newest}
+use Rattle.rule.specs.Rows.{row}
 use Rattle.image.specs.Limits.{maxKey, maxNumber}
-use Rattle.image.specs.Readers.{Read, got, bad}
-use Rattle.image.specs.Nodes.{Node, nodeAt, entryOf}
-use Rattle.image.specs.Sound.{Header, headerHolds, Sound, held}
+use Rattle.image.specs.Readers.{got, bad}
+use Rattle.image.specs.Nodes.{Node, nodeAt}
+use Rattle.image.specs.Sound.{headerHolds, Sound, held}
 use Rattle.image.specs.Search.{toStop, Found, hit, ends, searched}
 use Rattle.image.specs.Refusals.{badImage, badKind, badNumber, longKey, damaged, Answer, refused, given, reading}
-use Rattle.image.specs.Lookup.{Looked, found, deleted, absent, Lookup as LookupIs, get, Presence as PresenceIs, heldAt, presence}
+use Rattle.image.specs.Lookup.{Looked, found, deleted, absent, Presence as PresenceIs, heldAt, presence}
 use Rattle.image.specs.EntryMoves.{on, viewed, valueView}
 use Rattle.image.specs.Meaning.{Tells}
-use Rattle.image.proofs.Sound.{header-sound}
-use Rattle.image.proofs.Spots.{search-stopped}
 use Rattle.image.proofs.Lookup.{presence-tells}
 use Rattle.image.proofs.Views.{value-shown}
-use Rattle.table.specs.Nodes.{Numbered}
+use Rattle.table.specs.Nodes.{Framed}
 use Rattle.table.specs.Memtable.{lookupAs, Gets}
 use Rattle.table.specs.Presence.{presenceAs, Contains, saidValue, foundValue, rowValue, ShowsRow}
+use Rattle.table.proofs.NodeBytes.{framed-holds}
+use Rattle.table.specs.declared.nodes.Frame.{Frame}
 use Rattle.table.specs.declared.memtable.Lookup.{Lookup}
 use Rattle.table.specs.declared.memtable.Lookup.the-variants as lookup
 use Rattle.table.specs.declared.presence.Presence.{Presence}
@@ -54,14 +52,14 @@ pub has : (xs k : List ℕ) (n kind : ℕ) (r : Presence) → presenceAs r ≡ p
 has xs k n kind r e = record { exact = e; rule = λ sound known low short. let (a, f, t, l) = presence-tells xs sound k n kind known low short in (a, e ∙ f, t, l) }
 
 -- the tests in their order
-module _ (xs k : List ℕ) (n kind : ℕ) {b : Bool} (header : b ≡ headerHolds xs) where
-  pub has-header : not b ≡ true → refused badImage ≡ presence xs k n kind
+module _ (xs k : List ℕ) (n kind : ℕ) where
+  pub has-header : headerHolds xs ≡ false → refused badImage ≡ presence xs k n kind
   unfolding presence
-  has-header t = rw (sym header ∙ not-true b t)
+  has-header t = rw t
 
-  module _ (good : not b ≡ false) {c : Bool} (typed : c ≡ leb kind 1) where
+  module _ {f : Frame} (framed : Framed xs f) {c : Bool} (typed : c ≡ leb kind 1) where
     holds : headerHolds xs ≡ true
-    holds = sym header ∙ not-false b good
+    holds = framed-holds xs framed
 
     pub has-kind : not c ≡ true → refused badKind ≡ presence xs k n kind
     unfolding presence
@@ -82,12 +80,6 @@ module _ (xs k : List ℕ) (n kind : ℕ) {b : Bool} (header : b ≡ headerHolds
         pub has-key : maxKey < length k → refused longKey ≡ presence xs k n kind
         unfolding presence
         has-key t = rw (holds, kinded, numbered, lt-leb (length k) maxKey t)
-
-        pub has-ready : Header xs
-        has-ready = header-sound xs holds
-
-        pub has-node : {x looks : ℕ} → got (hit x looks) ≡ searched xs toStop k n → Numbered xs x
-        has-node e = let s = search-stopped xs toStop k n e in record { header = has-ready; some = s .some; most = s .most }
 
         module _ (short : length k ≤ maxKey) where
           pub has-damaged : {o : ℕ} → bad o ≡ searched xs toStop k n → refused damaged ≡ presence xs k n kind

@@ -1,34 +1,33 @@
 -- The ways out of the views at an entry cursor.
-use Prim.Native.Nat.{ℕ, _+_, _-_, _%_, _/_, _≤_}
+use Prim.Native.Nat.{ℕ, _+_, _-_, _%_, _≤_}
 use native.Mathlib.Omega.{arith}
 use mathlib.Core.Path.{_≡_, refl, sym, ap, _∙_}
 use mathlib.Core.Logic.{⊎-elim}
 use mathlib.Core.List.{List, [], _∷_}
-use mathlib.Core.Bool.{Bool, true, false}
+use mathlib.Core.Bool.{true}
 use lib.ListN.{length, take, drop}
-use lib.Dec.{eqb}
 use borrow.Author.Tests.{eq-eqb, ne-eqb}
 use types.Run.{OneOf}
 use denote.Enum.Declared.{tagOf}
 use Rattle.table.proofs.entry_views.PartsOn.{the-type}
-use Rattle.rule.specs.Lists.{Maybe, none, some}
+use Rattle.rule.specs.Lists.{Maybe}
 use Rattle.rule.specs.Entries.{valueKind}
-use Rattle.image.specs.Readers.{Read, got, bad}
+use Rattle.image.specs.Readers.{got, bad}
 use Rattle.image.specs.Words.{part}
-use Rattle.image.specs.Entries.{numberIn, Parts as PartsIs}
-use Rattle.image.specs.Nodes.{Node as NodeIs, nodeAt}
-use Rattle.image.specs.Sound.{headerHolds}
-use Rattle.image.specs.Refusals.{damaged, refusalOf, Answer, refused, given, reading}
-use Rattle.image.specs.EntryMoves.{Cursor, nowhere, on, inTable, partsOn, Span, emptySpan, view, viewed, kindIn, keySpan, valueSpan, keyView, valueView, numberView, kindView, viewRefusal}
+use Rattle.image.specs.Entries.{Parts as PartsIs}
+use Rattle.image.specs.Nodes.{nodeAt}
+use Rattle.image.specs.Refusals.{refusalOf, Answer, refused, given}
+use Rattle.image.specs.EntryMoves.{Cursor, nowhere, on, inTable, partsOn, Span, emptySpan, view, viewed, valueSpan, viewRefusal}
 use Rattle.table.specs.Entries.{partsOf}
 use Rattle.table.specs.Refusals.{refusalIs}
 use Rattle.table.specs.Nodes.{Numbered, toNode}
 use Rattle.table.specs.MemtableIter.{cursorIs, Tested}
-use Rattle.table.specs.EntryViews.{partsOnAs, PartsLie, PartsOfNode, PartsOnIs, shownNumber}
+use Rattle.table.specs.EntryViews.{partsOnAs, PartsOfNode, PartsOnIs, shownNumber}
 use Rattle.table.proofs.Lookups.{parts-inside}
 use Rattle.table.proofs.Cursors.{test-refuses}
 use Rattle.table.specs.declared.refusals.Refusal.{Refusal}
 use Rattle.table.specs.declared.refusals.Refusal.the-variants as refusal
+use Rattle.table.specs.declared.nodes.Frame.{Frame}
 use Rattle.table.specs.declared.entries.Parts.{Parts}
 use Rattle.table.specs.declared.nodes.Node.{Node as NodeRecord}
 use Rattle.table.specs.declared.memtable_iter.EntryCursor.{EntryCursor}
@@ -43,8 +42,8 @@ use Rattle.table.specs.declared.entry_views.PartsOn.the-variants as part
 pub parts-bad : (xs : List ℕ) (i : ℕ) {o : ℕ} → bad o ≡ nodeAt xs i → PartsOfNode xs i (parts.Refused refusal.Damaged)
 parts-bad xs i e = record { exact = rw (← e); lie = tt }
 
-pub parts-got : (xs : List ℕ) (i : ℕ) (m : NodeRecord) → Numbered xs i → got (toNode m) ≡ nodeAt xs i → PartsOfNode xs i (parts.Node (m .parts))
-parts-got xs i m n e = let (a, b) = parts-inside xs i (n .header) e in record { exact = rw (← e); lie = (a, b) }
+pub parts-got : (xs : List ℕ) (i : ℕ) (m : NodeRecord) {f : Frame} → Numbered xs f i → got (toNode m) ≡ nodeAt xs i → PartsOfNode xs i (parts.Node (m .parts))
+parts-got xs i m n e = let (a, b) = parts-inside xs i (n .framed .header) e in record { exact = rw (← e); lie = (a, b) }
 
 refuses-parts : (xs : List ℕ) (d : Cursor) (q : Refusal) → Tested xs d (Failed q) → refused (refusalIs q) ≡ partsOn xs d
 unfolding partsOn
@@ -55,13 +54,13 @@ module _ (xs : List ℕ) (c : EntryCursor) {t : CursorTest} (tested : Tested xs 
   pub parts-refused : {q : Refusal} → t ≡ Failed q → PartsOnIs xs (cursorIs c) (parts.Refused q)
   parts-refused {q} e = record { exact = refuses-parts xs (cursorIs c) q (rw e at tested); lie = tt }
 
-  pub parts-nowhere : t ≡ Passed → c ≡ Nowhere → PartsOnIs xs (cursorIs c) parts.Nowhere
+  pub parts-nowhere : {f : Frame} → t ≡ Passed f → c ≡ Nowhere → PartsOnIs xs (cursorIs c) parts.Nowhere
   unfolding partsOn
-  parts-nowhere e f = let (a, b) = rw e at tested in record { exact = rw (f, a); lie = tt }
+  parts-nowhere e f = let (a, b, _) = rw e at tested in record { exact = rw (f, a); lie = tt }
 
-  pub parts-node : t ≡ Passed → {i : ℕ} → c ≡ On i → (r : PartsOn) → PartsOfNode xs i r → PartsOnIs xs (cursorIs c) r
+  pub parts-node : {f : Frame} → t ≡ Passed f → {i : ℕ} → c ≡ On i → (r : PartsOn) → PartsOfNode xs i r → PartsOnIs xs (cursorIs c) r
   unfolding partsOn
-  parts-node e {i} f r p = let (a, b) = rw e at tested in let d : inTable xs (on i) ≡ true = rw f at b in record { exact = p .exact ∙ sym (rw (f, a, d)); lie = p .lie }
+  parts-node e {i} f r p = let (a, b, _) = rw e at tested in let d : inTable xs (on i) ≡ true = rw f at b in record { exact = p .exact ∙ sym (rw (f, a, d)); lie = p .lie }
 
 -- ---- the views
 

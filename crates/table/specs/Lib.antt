@@ -12,3 +12,4 @@ pub mod EntryViews
 pub mod EntrySpans
 pub mod Presence
 pub mod Growth
+pub mod Scans

@@ -10,7 +10,6 @@ use Rattle.image.specs.Sound.{Sound, held}
 use Rattle.image.specs.Refusals.{damaged, Answer, refused, given}
 use Rattle.image.specs.Fresh.{fresh}
 use Rattle.image.specs.Add.{Grown, add, afterwards}
-use Rattle.image.specs.Sound.{Header}
 use Rattle.image.specs.Lookup.{Looked, found, deleted, absent, Lookup as LookupIs, get}
 use Rattle.image.specs.Meaning.{Tells}
 use Rattle.table.specs.Refusals.{refusalIs}
@@ -60,11 +59,6 @@ pub record Adds (xs : List ℕ) (e : Entry) (height : ℕ) (r : Added) (ys : Lis
   pub rule : Sound xs → AddRule xs e r ys
 
 -- ---- get
-
--- a good header, and a node of the table or 0
-pub record InTable (xs : List ℕ) (node : ℕ) : Type 0 where
-  pub header : Header xs
-  pub most : node ≤ count xs
 
 -- what node i says of a key
 abbrev pub saidAs : ℕ → Said → Answer Looked

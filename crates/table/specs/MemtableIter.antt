@@ -1,4 +1,5 @@
--- What the entry cursor promises: `exact` on any bytes, `handed`, that a refused move hands back its cursor, and `rule` on a sound image.
+-- What the entry cursor promises: `exact` on any bytes, `handed`, that a refused move hands back its cursor, `rule` on a sound image, and
+-- `lands`: on any bytes a move ends on a node that can be read whole and lies onward, or nowhere.
 use Prim.Native.Nat.{ℕ}
 use mathlib.Core.Path.{_≡_}
 use mathlib.Core.Logic.{_⊎_}
@@ -7,8 +8,9 @@ use mathlib.Core.Bool.{true, false}
 use Rattle.image.specs.Sound.{headerHolds, Sound}
 use Rattle.image.specs.Refusals.{badImage, noNode, damaged, Answer, refused, given}
 use Rattle.image.specs.EntryMoves.{Cursor, nowhere, on, inTable, EntryMove, entryMove}
-use Rattle.image.specs.Meaning.{Stands, Fitting, Leads}
+use Rattle.image.specs.Meaning.{Stands, Fitting, Leads, Lands}
 use Rattle.table.specs.Refusals.{refusalIs}
+use Rattle.table.specs.Nodes.{Framed}
 use Rattle.table.specs.declared.memtable_iter.EntryCursor.{EntryCursor}
 use Rattle.table.specs.declared.memtable_iter.EntryCursor.the-variants.{Nowhere, On}
 use Rattle.table.specs.declared.memtable_iter.EntryMoved.{EntryMoved}
@@ -25,7 +27,7 @@ cursorIs (On i) = on i
 
 -- a cursor that may be used, or the first of the two tests that it fails
 abbrev pub Tested : List ℕ → Cursor → CursorTest → Type 0
-Tested xs c Passed = (headerHolds xs ≡ true) × (inTable xs c ≡ true)
+Tested xs c (Passed f) = (headerHolds xs ≡ true) × (inTable xs c ≡ true) × Framed xs f
 Tested xs c (Failed q) = ((headerHolds xs ≡ false) × (refusalIs q ≡ badImage)) ⊎ ((headerHolds xs ≡ true) × (inTable xs c ≡ false) × (refusalIs q ≡ noNode))
 
 -- where a cursor may go
@@ -43,8 +45,9 @@ abbrev pub HandsBack : EntryCursor → EntryMoved → Type 0
 HandsBack c (To d) = Unit
 HandsBack c (Refused q d) = d ≡ c
 
--- what a move of the entry cursor promises
+-- what a move of the entry cursor promises; `lands` holds on any bytes, so no scan goes round
 pub record Moves (xs : List ℕ) (m : EntryMove) (c : EntryCursor) (r : EntryMoved) : Type 0 where
   pub exact : movedAs r ≡ entryMove xs m (cursorIs c)
   pub handed : HandsBack c r
   pub rule : Sound xs → Stands xs (cursorIs c) → Fitting m → (d : Cursor) × (movedAs r ≡ given d) × Leads xs m (cursorIs c) d
+  pub lands : (d : Cursor) → movedAs r ≡ given d → Lands xs m (cursorIs c) d

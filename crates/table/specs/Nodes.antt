@@ -1,11 +1,15 @@
--- Nodes as the code reads them, and what it asks of a node's number.
-use Prim.Native.Nat.{ℕ, _+_, _*_, _≤_}
+-- Header and nodes as the code reads them, and what it asks of a node's number.
+use Prim.Native.Nat.{ℕ, _≤_}
+use mathlib.Core.Path.{_≡_}
 use mathlib.Core.List.{List}
-use lib.ListN.{length}
+use mathlib.Core.Bool.{false}
 use Rattle.image.specs.Readers.{Read, got, bad}
-use Rattle.image.specs.Nodes.{count, linkPlace, Lead as LeadIs, Node as NodeIs}
-use Rattle.image.specs.Sound.{Header}
+use Rattle.image.specs.Nodes.{count, free, Lead as LeadIs, Node as NodeIs}
+use Rattle.image.specs.Sound.{Header, headerHolds}
 use Rattle.table.specs.Entries.{keyedOf, partsOf}
+use Rattle.table.specs.declared.nodes.Frame.{Frame}
+use Rattle.table.specs.declared.nodes.FrameRead.{FrameRead}
+use Rattle.table.specs.declared.nodes.FrameRead.the-variants.{Good, Bad as BadFrame}
 use Rattle.table.specs.declared.nodes.Lead.{Lead}
 use Rattle.table.specs.declared.nodes.LeadRead.{LeadRead}
 use Rattle.table.specs.declared.nodes.LeadRead.the-variants.{Got as GotLead, Bad as BadLead}
@@ -31,13 +35,24 @@ abbrev pub nodeRead : NodeRead → Read NodeIs
 nodeRead (GotNode n) = got (toNode n)
 nodeRead (BadNode o) = bad o
 
--- the number of a node, in an image whose header holds
-pub record Numbered (xs : List ℕ) (i : ℕ) : Type 0 where
+-- a frame that was read from a header that holds
+pub record Framed (xs : List ℕ) (f : Frame) : Type 0 where
   pub header : Header xs
-  pub some : 1 ≤ i
-  pub most : i ≤ count xs
+  pub count-is : f .count ≡ count xs
+  pub free-is : f .free ≡ free xs
 
--- node i has a slot, or is the head, and its link at the level lies in the image
-pub record LinkInside (xs : List ℕ) (i level : ℕ) : Type 0 where
-  pub slotted : 4 * i ≤ length xs
-  pub inside : linkPlace xs i level + 4 ≤ length xs
+-- what reading the header answers
+abbrev pub FrameIs : List ℕ → FrameRead → Type 0
+FrameIs xs (Good f) = Framed xs f
+FrameIs xs BadFrame = headerHolds xs ≡ false
+
+-- the number of a node
+pub record Numbered (xs : List ℕ) (f : Frame) (i : ℕ) : Type 0 where
+  pub framed : Framed xs f
+  pub some : 1 ≤ i
+  pub most : i ≤ f .count
+
+-- the number of a node, or 0 for none
+pub record InTable (xs : List ℕ) (f : Frame) (i : ℕ) : Type 0 where
+  pub framed : Framed xs f
+  pub most : i ≤ f .count

@@ -1,4 +1,5 @@
--- What the questions of the layer above promise: `exact`, the answer on any bytes, `rule`, what it means on a sound image, and `range`, that it names a node of the table.
+-- What the questions of the layer above promise: `exact`, the answer on any bytes, `rule`, what it means on a sound image, and `lands`, on any bytes: the node that it names
+-- is one of the table, can be read whole, and has a key and a number that were asked for.
 use Prim.Native.Nat.{ℕ}
 use mathlib.Core.Path.{_≡_}
 use mathlib.Core.List.{List}
@@ -7,9 +8,8 @@ use Rattle.image.specs.Nodes.{count}
 use Rattle.image.specs.Sound.{headerHolds, Sound}
 use Rattle.image.specs.Refusals.{damaged, Answer, refused, given}
 use Rattle.image.specs.EntryMoves.{Cursor, nowhere, on}
-use Rattle.image.specs.Meaning.{Stands}
-use Rattle.image.specs.Cuts.{Cut as CutIs, all, from, above, below, nearest, NearestIs}
-use Rattle.image.specs.Newest.{NewestAt as NewestAtIs, value, deletion, nothing, newestAt, NewestIs, NewestIn}
+use Rattle.image.specs.Cuts.{Cut as CutIs, all, from, above, below, nearest, NearestIs, NearLands}
+use Rattle.image.specs.Newest.{NewestAt as NewestAtIs, value, deletion, nothing, newestAt, NewestIs, NewestLandsOn}
 use Rattle.table.specs.declared.questions.Cut.{Cut}
 use Rattle.table.specs.declared.questions.Cut.the-variants.{All, From, Above, Below}
 use Rattle.table.specs.declared.questions.Hit.{Hit}
@@ -54,7 +54,7 @@ hitAs hit.Damaged = refused damaged
 pub record Nears (xs : List ℕ) (c : CutIs) (t : List ℕ) (r : Hit) : Type 0 where
   pub exact : hitAs r ≡ nearest xs c t
   pub rule : Sound xs → Gives (NearestIs xs c t) (hitAs r)
-  pub range : IfGiven (Stands xs) (hitAs r)
+  pub lands : IfGiven (NearLands xs c t) (hitAs r)
 
 -- ---- newest
 
@@ -69,4 +69,4 @@ newestAs newest.Damaged = refused damaged
 pub record TellsNewest (xs k : List ℕ) (s : ℕ) (r : NewestAt) : Type 0 where
   pub exact : newestAs r ≡ newestAt xs k s
   pub rule : Sound xs → Gives (NewestIs xs k s) (newestAs r)
-  pub range : IfGiven (NewestIn xs) (newestAs r)
+  pub lands : IfGiven (NewestLandsOn xs k s) (newestAs r)

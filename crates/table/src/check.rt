@@ -2,39 +2,34 @@
 // The pass trusts the header alone. The walk follows the lowest chain, and carries for each level the node that it is to meet next.
 ghost use mathlib.Core.Path.{_≡_};
 ghost use Prim.Native.Nat.{_≤_};
-ghost use lib.ListN.{length};
-ghost use Rattle.rule.specs.Entries.{order};
 ghost use Rattle.image.specs.Limits.{headerSize, levels};
-ghost use Rattle.image.specs.Nodes.{count, heightOf, entryOf};
-ghost use Rattle.image.specs.Sound.{Header};
-ghost use Rattle.image.specs.Meaning.{IsNode};
-ghost use Rattle.image.specs.Check.{nodesRun, allMeet, stepped, mayFollow, threads, heads};
-ghost use Rattle.table.specs.Check.{Checked, Whole, LinksInside};
-ghost use Rattle.table.specs.KeyTypes.{ordOf};
-use crate::entries::key_in;
-use crate::key_types::Ordering;
-use crate::key_types::compare_entries;
+ghost use Rattle.image.specs.Nodes.{count};
+ghost use Rattle.image.specs.Check.{nodesRun, allMeet, threads, heads};
+ghost use Rattle.table.specs.Nodes.{Framed};
+ghost use Rattle.table.specs.Check.{Checked, Whole, LinksInside, StepsTo, KeyInside, MetInside, metBefore};
+use crate::entries::Keyed;
+use crate::entries::entry_less;
+use crate::nodes::Frame;
+use crate::nodes::FrameRead;
+use crate::nodes::HEAD_LINKS;
 use crate::nodes::HEADER_SIZE;
 use crate::nodes::LEVELS;
 use crate::nodes::LeadRead;
 use crate::nodes::NodeRead;
-use crate::nodes::count;
-use crate::nodes::free;
-use crate::nodes::header_holds;
 use crate::nodes::lead_of;
-use crate::nodes::link_of;
 use crate::nodes::node_at;
+use crate::nodes::read_frame;
 use crate::nodes::slot;
 use crate::words::get_word;
 use crate::words::wide_word;
 
 // Whether the nodes run from the header to the first free byte, each whole and where its slot says.
-fn nodes_run(s: &[u8]) -> bool
-    requires { ⌜ Header (now s) ⌝ }
+fn nodes_run(s: &[u8], f: Frame) -> bool
+    requires { ⌜ Framed (now s) f ⌝ }
     ensures { λ r. ⌜ r ≡ nodesRun (now (s .entry)) (count (now (s .entry))) 1 headerSize ⌝ }
 {
-    let used = free(s);
-    let mut left = count(s);
+    let used = f.free;
+    let mut left = f.count;
     let mut i = 1;
     let mut end = HEADER_SIZE;
     while left > 0 {
@@ -67,82 +62,47 @@ fn all_meet(next: &[u32; 12], x: u32, height: usize) -> bool
     true
 }
 
-// What each level is to meet behind node x, or behind the head, which has links at the levels below the height.
-fn step(s: &[u8], x: usize, next: [u32; 12], height: usize) -> [u32; 12]
-    requires { ⌜ LinksInside (now s) x height ⌝ }
-    ensures { λ r. ⌜ r ≡ stepped (now (s .entry)) x next height ⌝ }
+// What each level below the height is to meet behind a node, or behind the head, whose links stand at a place.
+fn step(s: &[u8], at: usize, next: [u32; 12], height: usize) -> [u32; 12]
+    requires { ⌜ LinksInside (now s) at height ⌝ }
+    ensures { λ r. ⌜ StepsTo (now (s .entry)) at next height r ⌝ }
 {
     let mut links = next;
     let mut l = 0;
     while l < height {
-        links[l] = link_of(s, x, l) as u32;
+        links[l] = get_word(s, at + 4 * l) as u32;
         l += 1;
     }
     links
 }
 
-// What each level is to meet first.
-fn heads(s: &[u8]) -> [u32; 12]
-    requires { ⌜ headerSize ≤ length (now s) ⌝ }
-    ensures { λ r. ⌜ r ≡ heads (now (s .entry)) ⌝ }
-{
-    step(s, 0, [0; 12], LEVELS)
+// What the walk along the chains met last: the head, or a node with this key and tag.
+pub(crate) enum Met {
+    Head,
+    Node(Keyed),
 }
 
-// The height of node i.
-fn height_of(s: &[u8], i: usize) -> usize
-    requires { ⌜ Whole (now s) × IsNode (now s) i ⌝ }
-    ensures { λ r. ⌜ (r ≡ heightOf (now (s .entry)) i) × (r ≤ levels) ⌝ }
+// Whether a node may follow the one met last along the lowest chain: its entry comes after that one's.
+fn may_follow(s: &[u8], last: Met, k: Keyed) -> bool
+    requires { ⌜ MetInside (now s) last × KeyInside (now s) k ⌝ }
+    ensures { λ r. ⌜ r ≡ metBefore (now (s .entry)) last k ⌝ }
 {
-    get_word(s, slot(s, i))
-}
-
-// The entry of node i beside that of node j; their keys are compared where they stand. Both leads are read, as both nodes are whole.
-fn compare_nodes(s: &[u8], i: usize, j: usize) -> Ordering
-    requires { ⌜ Whole (now s) × IsNode (now s) i × IsNode (now s) j ⌝ }
-    ensures { λ r. ⌜ ordOf r ≡ order (entryOf (now (s .entry)) i) (entryOf (now (s .entry)) j) ⌝ }
-{
-    let LeadRead::Got(a) = lead_of(s, i) else {
-        return Ordering::Equal;
-    };
-    let LeadRead::Got(b) = lead_of(s, j) else {
-        return Ordering::Equal;
-    };
-    let a_tag = a.keyed.tag;
-    let b_tag = b.keyed.tag;
-    compare_entries(
-        key_in(s, a.keyed),
-        a_tag.number(),
-        key_in(s, b.keyed),
-        b_tag.number(),
-    )
-}
-
-// Whether node x may follow node p along the lowest chain: its entry comes after that of p, or p is 0, which is none.
-fn may_follow(s: &[u8], p: usize, x: usize) -> bool
-    requires { ⌜ Whole (now s) × (p ≤ count (now s)) × IsNode (now s) x ⌝ }
-    ensures { λ r. ⌜ r ≡ mayFollow (now (s .entry)) p x ⌝ }
-{
-    if p < 1 {
-        return true;
-    }
-    let order = compare_nodes(s, p, x);
-    match order {
-        Ordering::Less => true,
-        Ordering::Equal => false,
-        Ordering::Greater => false,
+    match last {
+        Met::Head => true,
+        Met::Node(before) => entry_less(s, before, k),
     }
 }
 
 // Whether the lowest chain meets as many nodes as there are, in ascending order, and each level those of them that are tall enough.
-fn threads(s: &[u8]) -> bool
-    requires { ⌜ Whole (now s) ⌝ }
+// What leads a node is read once more, and tested again: it may not be what the pass over the nodes saw.
+fn threads(s: &[u8], f: Frame) -> bool
+    requires { ⌜ Whole (now s) × Framed (now s) f ⌝ }
     ensures { λ r. ⌜ r ≡ threads (now (s .entry)) (count (now (s .entry))) 0 (heads (now (s .entry))) ⌝ }
 {
-    let n = count(s);
-    let mut next = heads(s);
+    let n = f.count;
+    let mut next = step(s, HEAD_LINKS, [0; 12], LEVELS);
     let mut left = n;
-    let mut p = 0;
+    let mut last = Met::Head;
     while left > 0 {
         let first = next[0];
         let x = wide_word(first);
@@ -152,15 +112,18 @@ fn threads(s: &[u8]) -> bool
         if x > n {
             return false;
         }
-        let height = height_of(s, x);
-        if !all_meet(&next, first, height) {
+        let LeadRead::Got(m) = lead_of(s, f, x) else {
+            return false;
+        };
+        if !all_meet(&next, first, m.height) {
             return false;
         }
-        if !may_follow(s, p, x) {
+        let keyed = m.keyed;
+        if !may_follow(s, last, keyed) {
             return false;
         }
-        next = step(s, x, next, height);
-        p = x;
+        next = step(s, m.start + 8, next, m.height);
+        last = Met::Node(keyed);
         left -= 1;
     }
     all_meet(&next, 0, LEVELS)
@@ -170,11 +133,11 @@ fn threads(s: &[u8]) -> bool
 pub fn check(s: &[u8]) -> bool
     ensures { λ r. ⌜ Checked (now (s .entry)) r ⌝ }
 {
-    if !header_holds(s) {
+    let FrameRead::Good(f) = read_frame(s) else {
+        return false;
+    };
+    if !nodes_run(s, f) {
         return false;
     }
-    if !nodes_run(s) {
-        return false;
-    }
-    threads(s)
+    threads(s, f)
 }

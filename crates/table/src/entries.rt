@@ -3,11 +3,14 @@ ghost use mathlib.Core.Path.{_≡_};
 ghost use Prim.Native.Nat.{_+_, _≤_};
 ghost use lib.ListN.{length};
 ghost use lib.Seq.{sets};
+ghost use Rattle.rule.specs.Order.{isLess};
 ghost use Rattle.image.specs.Limits.{maxKey, maxValue};
-ghost use Rattle.image.specs.Entries.{encode, keyedAt, restAt, keyIn};
+ghost use Rattle.image.specs.Entries.{encode, keyedAt, restAt, keyIn, compareKeyed};
 ghost use Rattle.table.specs.Entries.{entry, EntrySize, Writable, keyedOf, keyedRead, KeyedFits, partsRead, PartsFits};
 use crate::key_types::LenRead;
+use crate::key_types::Ordering;
 use crate::key_types::Tag;
+use crate::key_types::compare_entries;
 use crate::key_types::get_tag;
 use crate::key_types::len_at;
 use crate::key_types::len_size;
@@ -94,6 +97,21 @@ pub(crate) fn key_in(s: &[u8], k: Keyed) -> &[u8]
     let at = k.key_at;
     let end = at + k.key_len;
     &s[at..end]
+}
+
+// Whether one entry comes before another in the order; their keys are compared where they stand.
+pub(crate) fn entry_less(s: &[u8], a: Keyed, b: Keyed) -> bool
+    requires { ⌜ ((a .«key_at») + (a .«key_len») ≤ length (now s)) × ((b .«key_at») + (b .«key_len») ≤ length (now s)) ⌝ }
+    ensures { λ r. ⌜ r ≡ isLess (compareKeyed (now (s .entry)) (keyedOf a) (keyedOf b)) ⌝ }
+{
+    let a_tag = a.tag;
+    let b_tag = b.tag;
+    let order = compare_entries(key_in(s, a), a_tag.number(), key_in(s, b), b_tag.number());
+    match order {
+        Ordering::Less => true,
+        Ordering::Equal => false,
+        Ordering::Greater => false,
+    }
 }
 
 // Where the parts of an entry stand.

@@ -10,6 +10,7 @@ use crate::key_types::Tag;
 use crate::memtable_iter::CursorTest;
 use crate::memtable_iter::EntryCursor;
 use crate::memtable_iter::test_cursor;
+use crate::nodes::Frame;
 use crate::nodes::NodeRead;
 use crate::nodes::node_of;
 use crate::refusals::Refusal;
@@ -22,11 +23,11 @@ pub enum PartsOn {
 }
 
 // The parts of a node; a byte at fault is damage.
-fn parts_of(s: &[u8], node: usize) -> PartsOn
-    requires { ⌜ Numbered (now s) node ⌝ }
+fn parts_of(s: &[u8], f: Frame, node: usize) -> PartsOn
+    requires { ⌜ Numbered (now s) f node ⌝ }
     ensures { λ r. ⌜ PartsOfNode (now (s .entry)) node r ⌝ }
 {
-    let read = node_of(s, node);
+    let read = node_of(s, f, node);
     match read {
         NodeRead::Bad(_) => PartsOn::Refused(Refusal::Damaged),
         NodeRead::Got(m) => {
@@ -43,9 +44,9 @@ pub(crate) fn parts_on(s: &[u8], c: EntryCursor) -> PartsOn
     let test = test_cursor(s, c);
     match test {
         CursorTest::Failed(q) => PartsOn::Refused(q),
-        CursorTest::Passed => match c {
+        CursorTest::Passed(f) => match c {
             EntryCursor::Nowhere => PartsOn::Nowhere,
-            EntryCursor::On(node) => parts_of(s, node),
+            EntryCursor::On(node) => parts_of(s, f, node),
         },
     }
 }

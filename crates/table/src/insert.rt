@@ -2,19 +2,16 @@
 ghost use mathlib.Core.Path.{_≡_};
 ghost use Prim.Native.Nat.{ℕ, _+_, _*_, _<_, _≤_};
 ghost use lib.ListN.{length, getD};
-ghost use Rattle.image.specs.Words.{putWords};
+ghost use Rattle.image.specs.Words.{word, putWords};
 ghost use Rattle.image.specs.Fresh.{freshImage};
 ghost use Rattle.image.specs.Limits.{headerSize, maxImage};
-ghost use Rattle.image.specs.Nodes.{count};
-ghost use Rattle.image.specs.Add.{nodeWritten, withEntry};
+ghost use Rattle.image.specs.Add.{nodeWritten, written};
 ghost use Rattle.table.specs.Entries.{entry};
-ghost use Rattle.table.specs.Insert.{NodeFits, Joinable, Joined, EntryFits, Sized, RoomIs, Insertable, Inserts};
+ghost use Rattle.table.specs.Insert.{NodeFits, PlacesInside, LinksRead, EntryFits, Sized, RoomIs, Insertable, Inserts};
 use crate::entries::entry_size;
 use crate::entries::put_entry;
+use crate::nodes::Frame;
 use crate::nodes::MAX_NODES;
-use crate::nodes::count;
-use crate::nodes::free;
-use crate::nodes::links_at;
 use crate::skipmap::OnEqual;
 use crate::skipmap::Spot;
 use crate::skipmap::search;
@@ -73,74 +70,66 @@ pub(crate) fn put_node(
     put_entry(free, 8 + 4 * height, key, number, kind, value);
 }
 
-// The links that are to lead to a new node: where each stands, and what it holds.
-pub struct Joins {
-    pub places: [usize; 12],
-    pub links: [usize; 12],
-}
-
-// The links at each level below the height of the nodes that a search recorded.
-pub(crate) fn find_joins(s: &[u8], prev: [usize; 12], height: usize) -> Joins
-    requires { ⌜ Joinable (now s) prev height ⌝ }
-    ensures { λ r. ⌜ Joined (now (s .entry)) prev height r ⌝ }
+// What the links at these places hold, at each level below the height.
+pub(crate) fn read_links(s: &[u8], places: [usize; 12], height: usize) -> [usize; 12]
+    requires { ⌜ PlacesInside (now s) places height ⌝ }
+    ensures { λ r. ⌜ LinksRead (now (s .entry)) places height r ⌝ }
 {
-    let mut places = [0usize; 12];
     let mut links = [0usize; 12];
     let mut l = 0;
     while l < height {
-        let node = prev[l];
-        let place = links_at(s, node) + 4 * l;
-        places[l] = place;
+        let place = places[l];
         links[l] = get_word(s, place);
         l += 1;
     }
-    Joins {
-        places: places,
-        links: links,
-    }
+    links
 }
 
-// Puts an entry in behind the nodes that a search recorded: its node at the first free byte, its slot, the links to it, and
-// then the count and the first free byte. Answers the node's number.
+// Puts an entry in where a search ended: the first free byte, the node there, its slot, the links to it from the lowest up, and the
+// count last, which is what makes it a node of the table. Answers the node's number.
 pub(crate) fn put_in(
     s: &mut [u8],
-    prev: [usize; 12],
+    f: Frame,
+    places: [usize; 12],
     key: &[u8],
     number: u64,
     kind: u8,
     value: &[u8],
     height: usize,
 ) -> usize
-    requires { ⌜ EntryFits (now s) prev height (entry (now key) number kind (now value)) ⌝ }
-    ensures { λ r. ⌜ (r ≡ count (now (s .entry)) + 1) × (now (s .exit) ≡ withEntry (now (s .entry)) (entry (now (key .entry)) number kind (now (value .entry))) height prev) ⌝ }
+    requires { ⌜ EntryFits (now s) f places height (entry (now key) number kind (now value)) ⌝ }
+    ensures { λ r. ⌜ (r ≡ (f .count) + 1) × (now (s .exit) ≡ written (now (s .entry)) (f .count) (f .free) height (entry (now (key .entry)) number kind (now (value .entry))) (λ l. word (now (s .entry)) (getD places l 0)) (λ l. getD places l 0)) ⌝ }
 {
-    let join = find_joins(s, prev, height);
-    let places = join.places;
-    let links = join.links;
-    let used = free(s);
-    let node = count(s) + 1;
+    let links = read_links(s, places, height);
+    let used = f.free;
+    let node = f.count + 1;
     let end = used + 8 + 4 * height + entry_size(key.len(), value.len());
     let len = s.len();
+    put_word(s, 8, end);
     put_node(&mut s[used..], height, &links, key, number, kind, value);
     put_word(s, len - 4 * node, used);
     let nodes = [node; 12];
     put_words(s, &places, &nodes, height);
     put_word(s, 4, node);
-    put_word(s, 8, end);
     node
 }
 
-// Whether one more node of this height fits, whose key and value have these lengths.
-pub(crate) fn has_room(s: &[u8], key_len: usize, value_len: usize, height: usize) -> bool
-    requires { ⌜ Sized (now s) «key_len» «value_len» height ⌝ }
-    ensures { λ r. ⌜ RoomIs (now (s .entry)) «key_len» «value_len» height r ⌝ }
+// Whether one more node of this height fits an image of this length, whose key and value have these lengths.
+pub(crate) fn has_room(
+    len: usize,
+    f: Frame,
+    key_len: usize,
+    value_len: usize,
+    height: usize,
+) -> bool
+    requires { ⌜ Sized len f «key_len» «value_len» height ⌝ }
+    ensures { λ r. ⌜ RoomIs len f «key_len» «value_len» height r ⌝ }
 {
-    let n = count(s);
-    if n >= MAX_NODES {
+    if f.count >= MAX_NODES {
         return false;
     }
     let need = 12 + 4 * height + entry_size(key_len, value_len);
-    need <= s.len() - 4 * n - free(s)
+    need <= len - 4 * f.count - f.free
 }
 
 // What an insertion answers: the new node's number, or why nothing was written.
@@ -154,16 +143,17 @@ pub enum Inserted {
 // Looks for the entry's key and number, and where they are not there puts the entry in. An equal entry is a duplicate, room or not.
 pub(crate) fn insert(
     s: &mut [u8],
+    f: Frame,
     key: &[u8],
     number: u64,
     kind: u8,
     value: &[u8],
     height: usize,
 ) -> Inserted
-    requires { ⌜ Insertable (now s) (entry (now key) number kind (now value)) height ⌝ }
+    requires { ⌜ Insertable (now s) f (entry (now key) number kind (now value)) height ⌝ }
     ensures { λ r. ⌜ Inserts (now (s .entry)) (entry (now (key .entry)) number kind (now (value .entry))) height r (now (s .exit)) ⌝ }
 {
-    let found = search(s, OnEqual::Stop, key, number);
+    let found = search(s, f, OnEqual::Stop, key, number);
     let spot = found.spot;
     match spot {
         Spot::Bad(_) => Inserted::Damaged,
@@ -173,11 +163,11 @@ pub(crate) fn insert(
             after: _,
             looks: _,
         } => {
-            if !has_room(s, key.len(), value.len(), height) {
+            if !has_room(s.len(), f, key.len(), value.len(), height) {
                 return Inserted::Full;
             }
-            let prev = found.prev;
-            Inserted::At(put_in(s, prev, key, number, kind, value, height))
+            let places = found.places;
+            Inserted::At(put_in(s, f, places, key, number, kind, value, height))
         }
     }
 }

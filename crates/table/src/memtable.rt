@@ -1,6 +1,7 @@
 // The memtable: the calls on one table. None of them asks anything of its caller; each fixes its answer, and of a lent image
 // every byte afterwards, on any bytes. A refusal has a number and keeps every byte.
 ghost use Rattle.table.specs.Entries.{entry};
+ghost use Rattle.table.specs.Nodes.{InTable};
 ghost use mathlib.Core.Path.{_≡_};
 ghost use mathlib.Core.List.{List};
 ghost use Prim.Native.Nat.{ℕ};
@@ -11,7 +12,7 @@ ghost use Rattle.rule.specs.Entries.{valueKind};
 ghost use Rattle.image.specs.Refusals.{given, reading};
 ghost use Rattle.image.specs.Lookup.{found, deleted, absent, saidAt};
 ghost use Rattle.table.specs.KeyTypes.{ordOf};
-ghost use Rattle.table.specs.Memtable.{Freshens, addedAs, Adds, InTable, saidAs, andThen, lookupAs, Gets};
+ghost use Rattle.table.specs.Memtable.{Freshens, addedAs, Adds, saidAs, andThen, lookupAs, Gets};
 ghost use Rattle.table.specs.Insert.{insertedAs};
 use crate::entries::MAX_KEY;
 use crate::entries::MAX_VALUE;
@@ -23,12 +24,14 @@ use crate::key_types::Number;
 use crate::key_types::Ordering;
 use crate::key_types::Tag;
 use crate::key_types::compare_keys;
+use crate::nodes::Frame;
+use crate::nodes::FrameRead;
 use crate::nodes::HEADER_SIZE;
 use crate::nodes::LEVELS;
 use crate::nodes::MAX_IMAGE;
 use crate::nodes::NodeRead;
-use crate::nodes::header_holds;
 use crate::nodes::node_of;
+use crate::nodes::read_frame;
 use crate::refusals::Refusal;
 use crate::skipmap::OnEqual;
 use crate::skipmap::Spot;
@@ -76,9 +79,9 @@ fn as_added(a: Inserted) -> Added
 pub fn add(s: &mut [u8], key: &[u8], number: u64, kind: u8, value: &[u8], height: usize) -> Added
     ensures { λ r. ⌜ Adds (now (s .entry)) (entry (now (key .entry)) number kind (now (value .entry))) height r (now (s .exit)) ⌝ }
 {
-    if !header_holds(s) {
+    let FrameRead::Good(f) = read_frame(s) else {
         return Added::Refused(Refusal::BadImage);
-    }
+    };
     if !Tag::known(kind) {
         return Added::Refused(Refusal::BadKind);
     }
@@ -97,7 +100,7 @@ pub fn add(s: &mut [u8], key: &[u8], number: u64, kind: u8, value: &[u8], height
     if height > LEVELS {
         return Added::Refused(Refusal::BadHeight);
     }
-    as_added(insert(s, key, number, kind, value, height))
+    as_added(insert(s, f, key, number, kind, value, height))
 }
 
 // What a lookup answers, with the looks that it took: the node of the found value, that the newest entry is a deletion, or that
@@ -142,14 +145,14 @@ fn says(same: bool, kind: u8) -> Said
 }
 
 // What the node says of the key at which its search stands, or none.
-pub(crate) fn said_at(s: &[u8], key: &[u8], node: usize) -> Said
-    requires { ⌜ InTable (now s) node ⌝ }
+pub(crate) fn said_at(s: &[u8], f: Frame, key: &[u8], node: usize) -> Said
+    requires { ⌜ InTable (now s) f node ⌝ }
     ensures { λ r. ⌜ saidAs node r ≡ reading (saidAt (now (s .entry)) (now (key .entry)) node) given ⌝ }
 {
     if node < 1 {
         return Said::Absent;
     }
-    let read = node_of(s, node);
+    let read = node_of(s, f, node);
     match read {
         NodeRead::Bad(_) => Said::Damaged,
         NodeRead::Got(m) => {
@@ -177,24 +180,24 @@ fn looked(said: Said, node: usize, looks: usize) -> Lookup
 pub fn get(s: &[u8], key: &[u8], snapshot: u64) -> Lookup
     ensures { λ r. ⌜ Gets (now (s .entry)) (now (key .entry)) snapshot r ⌝ }
 {
-    if !header_holds(s) {
+    let FrameRead::Good(f) = read_frame(s) else {
         return Lookup::Refused(Refusal::BadImage);
-    }
+    };
     if !Number::fits(snapshot) {
         return Lookup::Refused(Refusal::BadNumber);
     }
     if key.len() > MAX_KEY {
         return Lookup::Refused(Refusal::LongKey);
     }
-    let found = search(s, OnEqual::Stop, key, snapshot);
+    let found = search(s, f, OnEqual::Stop, key, snapshot);
     let spot = found.spot;
     match spot {
         Spot::Bad(_) => Lookup::Refused(Refusal::Damaged),
-        Spot::Hit { node, looks } => looked(said_at(s, key, node), node, looks),
+        Spot::Hit { node, looks } => looked(said_at(s, f, key, node), node, looks),
         Spot::Ends {
             before: _,
             after,
             looks,
-        } => looked(said_at(s, key, after), after, looks),
+        } => looked(said_at(s, f, key, after), after, looks),
     }
 }

@@ -1,27 +1,30 @@
 // The entry cursor: over all entries of one table in their order, deletions included; and what stands at it.
 // A cursor is a node number, not a place in memory: additions never change what it shows. Nothing here writes.
 ghost use mathlib.Core.Path.{_≡_};
-ghost use Rattle.image.specs.Readers.{got, bind};
-ghost use Rattle.image.specs.Search.{standing};
+ghost use Prim.Native.Nat.{ℕ, _+_, _≤_};
+ghost use lib.ListN.{length};
 ghost use Rattle.image.specs.Refusals.{given, reading};
-ghost use Rattle.image.specs.Sound.{Header};
-ghost use Rattle.image.specs.EntryMoves.{on, cursorAt, first, seek, next, previous, follow, firstFrom, lastBefore, moved};
-ghost use Rattle.table.specs.Nodes.{Numbered, LinkInside};
-ghost use Rattle.table.specs.Skipmap.{searchRead};
+ghost use Rattle.image.specs.EntryMoves.{on, cursorAt, first, seek, next, previous, landing, landingAfter, firstEntry, firstNotPassed, lastBefore, moved};
+ghost use Rattle.table.specs.Entries.{keyedOf};
+ghost use Rattle.table.specs.Nodes.{Framed, Numbered, InTable};
+ghost use Rattle.table.specs.Skipmap.{modeOf};
 ghost use Rattle.table.specs.MemtableIter.{cursorIs, Tested, foundAs, movedAs, HandsBack, Moves};
+use crate::entries::Keyed;
 use crate::entries::MAX_KEY;
+use crate::entries::entry_less;
 use crate::entries::key_in;
 use crate::key_types::Number;
-use crate::nodes::LeadRead;
-use crate::nodes::count;
-use crate::nodes::header_holds;
-use crate::nodes::lead_of;
-use crate::nodes::link_of;
+use crate::nodes::Frame;
+use crate::nodes::FrameRead;
+use crate::nodes::HEAD_LINKS;
+use crate::nodes::NodeRead;
+use crate::nodes::node_of;
+use crate::nodes::read_frame;
 use crate::refusals::Refusal;
 use crate::skipmap::OnEqual;
-use crate::skipmap::Searched;
 use crate::skipmap::Spot;
 use crate::skipmap::search;
+use crate::words::get_word;
 
 // Nowhere, or on a node.
 pub enum EntryCursor {
@@ -35,19 +38,9 @@ pub enum EntryMoved {
     Refused(Refusal, EntryCursor),
 }
 
-// A node number as a cursor; 0 is none.
-fn cursor_at(node: usize) -> EntryCursor
-    ensures { λ r. ⌜ cursorIs r ≡ cursorAt node ⌝ }
-{
-    if node < 1 {
-        return EntryCursor::Nowhere;
-    }
-    EntryCursor::On(node)
-}
-
-// Whether a cursor may be used on a table, or why not.
+// Whether a cursor may be used on a table, with the frame that was read, or why not.
 pub enum CursorTest {
-    Passed,
+    Passed(Frame),
     Failed(Refusal),
 }
 
@@ -55,19 +48,19 @@ pub enum CursorTest {
 pub fn test_cursor(s: &[u8], c: EntryCursor) -> CursorTest
     ensures { λ r. ⌜ Tested (now (s .entry)) (cursorIs c) r ⌝ }
 {
-    if !header_holds(s) {
+    let FrameRead::Good(f) = read_frame(s) else {
         return CursorTest::Failed(Refusal::BadImage);
-    }
+    };
     let EntryCursor::On(node) = c else {
-        return CursorTest::Passed;
+        return CursorTest::Passed(f);
     };
     if node < 1 {
         return CursorTest::Failed(Refusal::NoNode);
     }
-    if node > count(s) {
+    if node > f.count {
         return CursorTest::Failed(Refusal::NoNode);
     }
-    CursorTest::Passed
+    CursorTest::Passed(f)
 }
 
 // Where a cursor may go, or that damage was met.
@@ -76,48 +69,72 @@ pub enum EntryFound {
     Damaged,
 }
 
-// Where the lowest link of a node, or of the head, leads.
-fn follow_lowest(s: &[u8], node: usize) -> EntryFound
-    requires { ⌜ Header (now s) × LinkInside (now s) node 0 ⌝ }
-    ensures { λ r. ⌜ foundAs r ≡ reading (follow (now (s .entry)) node) given ⌝ }
+// The end of a move: nowhere, or on a node that can be read whole.
+fn land(s: &[u8], f: Frame, node: usize) -> EntryFound
+    requires { ⌜ InTable (now s) f node ⌝ }
+    ensures { λ r. ⌜ foundAs r ≡ reading (landing (now (s .entry)) (cursorAt node)) given ⌝ }
 {
-    let after = link_of(s, node, 0);
-    if after > count(s) {
-        return EntryFound::Damaged;
+    if node < 1 {
+        return EntryFound::At(EntryCursor::Nowhere);
     }
-    EntryFound::At(cursor_at(after))
+    let read = node_of(s, f, node);
+    match read {
+        NodeRead::Bad(_) => EntryFound::Damaged,
+        NodeRead::Got(_) => EntryFound::At(EntryCursor::On(node)),
+    }
 }
 
-// Where a search stands.
-pub(crate) fn standing(found: Searched) -> EntryFound
-    ensures { λ r. ⌜ foundAs r ≡ reading (bind (searchRead found) (λ f. got (cursorAt (standing f)))) given ⌝ }
+// The same behind an entry: a node that does not come after it is damage.
+fn land_after(s: &[u8], f: Frame, from: Keyed, node: usize) -> EntryFound
+    requires { ⌜ InTable (now s) f node × ((from .«key_at») + (from .«key_len») ≤ length (now s)) ⌝ }
+    ensures { λ r. ⌜ ((o : ℕ) → foundAs r ≡ reading (landingAfter (now (s .entry)) (keyedOf from) o (cursorAt node)) given) ⌝ }
 {
+    if node < 1 {
+        return EntryFound::At(EntryCursor::Nowhere);
+    }
+    let read = node_of(s, f, node);
+    match read {
+        NodeRead::Bad(_) => EntryFound::Damaged,
+        NodeRead::Got(m) => {
+            let keyed = m.parts.keyed;
+            if !entry_less(s, from, keyed) {
+                return EntryFound::Damaged;
+            }
+            EntryFound::At(EntryCursor::On(node))
+        }
+    }
+}
+
+// The first entry that a search does not pass.
+pub(crate) fn first_not_passed(
+    s: &[u8],
+    f: Frame,
+    mode: OnEqual,
+    key: &[u8],
+    number: u64,
+) -> EntryFound
+    requires { ⌜ Framed (now s) f ⌝ }
+    ensures { λ r. ⌜ foundAs r ≡ reading (firstNotPassed (now (s .entry)) (modeOf mode) (now (key .entry)) number) given ⌝ }
+{
+    let found = search(s, f, mode, key, number);
     let spot = found.spot;
     match spot {
         Spot::Bad(_) => EntryFound::Damaged,
-        Spot::Hit { node, looks: _ } => EntryFound::At(cursor_at(node)),
+        Spot::Hit { node, looks: _ } => land(s, f, node),
         Spot::Ends {
             before: _,
             after,
             looks: _,
-        } => EntryFound::At(cursor_at(after)),
+        } => land(s, f, after),
     }
 }
 
-// The first entry at or after a key and a number.
-pub(crate) fn at_or_after(s: &[u8], key: &[u8], number: u64) -> EntryFound
-    requires { ⌜ Header (now s) ⌝ }
-    ensures { λ r. ⌜ foundAs r ≡ reading (firstFrom (now (s .entry)) (now (key .entry)) number) given ⌝ }
-{
-    standing(search(s, OnEqual::Stop, key, number))
-}
-
 // The last entry before a key and a number.
-pub(crate) fn last_before(s: &[u8], key: &[u8], number: u64) -> EntryFound
-    requires { ⌜ Header (now s) ⌝ }
+pub(crate) fn last_before(s: &[u8], f: Frame, key: &[u8], number: u64) -> EntryFound
+    requires { ⌜ Framed (now s) f ⌝ }
     ensures { λ r. ⌜ foundAs r ≡ reading (lastBefore (now (s .entry)) (now (key .entry)) number) given ⌝ }
 {
-    let found = search(s, OnEqual::GoDown, key, number);
+    let found = search(s, f, OnEqual::GoDown, key, number);
     let spot = found.spot;
     match spot {
         Spot::Bad(_) => EntryFound::Damaged,
@@ -126,42 +143,53 @@ pub(crate) fn last_before(s: &[u8], key: &[u8], number: u64) -> EntryFound
             before,
             after: _,
             looks: _,
-        } => EntryFound::At(cursor_at(before)),
+        } => land(s, f, before),
     }
 }
 
-// The first entry of all.
-pub(crate) fn first_entry(s: &[u8]) -> EntryFound
-    requires { ⌜ Header (now s) ⌝ }
-    ensures { λ r. ⌜ foundAs r ≡ reading (follow (now (s .entry)) 0) given ⌝ }
+// The first entry of all: where the head's lowest link leads.
+pub(crate) fn first_entry(s: &[u8], f: Frame) -> EntryFound
+    requires { ⌜ Framed (now s) f ⌝ }
+    ensures { λ r. ⌜ foundAs r ≡ reading (firstEntry (now (s .entry))) given ⌝ }
 {
-    follow_lowest(s, 0)
+    let first = get_word(s, HEAD_LINKS);
+    if first > f.count {
+        return EntryFound::Damaged;
+    }
+    land(s, f, first)
 }
 
-// The entry after that of a node.
-fn entry_after(s: &[u8], node: usize) -> EntryFound
-    requires { ⌜ Numbered (now s) node ⌝ }
+// The entry after that of a node: where its lowest link leads.
+fn entry_after(s: &[u8], f: Frame, node: usize) -> EntryFound
+    requires { ⌜ Numbered (now s) f node ⌝ }
     ensures { λ r. ⌜ foundAs r ≡ reading (moved (now (s .entry)) next (on node)) given ⌝ }
 {
-    let lead = lead_of(s, node);
-    match lead {
-        LeadRead::Bad(_) => EntryFound::Damaged,
-        LeadRead::Got(_) => follow_lowest(s, node),
+    let read = node_of(s, f, node);
+    match read {
+        NodeRead::Bad(_) => EntryFound::Damaged,
+        NodeRead::Got(m) => {
+            let after = get_word(s, m.start + 8);
+            if after > f.count {
+                return EntryFound::Damaged;
+            }
+            let keyed = m.parts.keyed;
+            land_after(s, f, keyed, after)
+        }
     }
 }
 
 // The entry before that of a node.
-fn entry_before(s: &[u8], node: usize) -> EntryFound
-    requires { ⌜ Numbered (now s) node ⌝ }
+fn entry_before(s: &[u8], f: Frame, node: usize) -> EntryFound
+    requires { ⌜ Numbered (now s) f node ⌝ }
     ensures { λ r. ⌜ foundAs r ≡ reading (moved (now (s .entry)) previous (on node)) given ⌝ }
 {
-    let lead = lead_of(s, node);
-    match lead {
-        LeadRead::Bad(_) => EntryFound::Damaged,
-        LeadRead::Got(m) => {
-            let keyed = m.keyed;
+    let read = node_of(s, f, node);
+    match read {
+        NodeRead::Bad(_) => EntryFound::Damaged,
+        NodeRead::Got(m) => {
+            let keyed = m.parts.keyed;
             let tag = keyed.tag;
-            last_before(s, key_in(s, keyed), tag.number())
+            last_before(s, f, key_in(s, keyed), tag.number())
         }
     }
 }
@@ -183,7 +211,7 @@ pub fn entry_first(s: &[u8], c: EntryCursor) -> EntryMoved
     let test = test_cursor(s, c);
     match test {
         CursorTest::Failed(q) => EntryMoved::Refused(q, c),
-        CursorTest::Passed => end_move(first_entry(s), c),
+        CursorTest::Passed(f) => end_move(first_entry(s, f), c),
     }
 }
 
@@ -194,14 +222,14 @@ pub fn entry_seek(s: &[u8], c: EntryCursor, key: &[u8], number: u64) -> EntryMov
     let test = test_cursor(s, c);
     match test {
         CursorTest::Failed(q) => EntryMoved::Refused(q, c),
-        CursorTest::Passed => {
+        CursorTest::Passed(f) => {
             if !Number::fits(number) {
                 return EntryMoved::Refused(Refusal::BadNumber, c);
             }
             if key.len() > MAX_KEY {
                 return EntryMoved::Refused(Refusal::LongKey, c);
             }
-            end_move(at_or_after(s, key, number), c)
+            end_move(first_not_passed(s, f, OnEqual::Stop, key, number), c)
         }
     }
 }
@@ -213,9 +241,9 @@ pub fn entry_next(s: &[u8], c: EntryCursor) -> EntryMoved
     let test = test_cursor(s, c);
     match test {
         CursorTest::Failed(q) => EntryMoved::Refused(q, c),
-        CursorTest::Passed => match c {
-            EntryCursor::Nowhere => end_move(first_entry(s), c),
-            EntryCursor::On(node) => end_move(entry_after(s, node), c),
+        CursorTest::Passed(f) => match c {
+            EntryCursor::Nowhere => end_move(first_entry(s, f), c),
+            EntryCursor::On(node) => end_move(entry_after(s, f, node), c),
         },
     }
 }
@@ -227,9 +255,9 @@ pub fn entry_prev(s: &[u8], c: EntryCursor) -> EntryMoved
     let test = test_cursor(s, c);
     match test {
         CursorTest::Failed(q) => EntryMoved::Refused(q, c),
-        CursorTest::Passed => match c {
+        CursorTest::Passed(f) => match c {
             EntryCursor::Nowhere => EntryMoved::To(EntryCursor::Nowhere),
-            EntryCursor::On(node) => end_move(entry_before(s, node), c),
+            EntryCursor::On(node) => end_move(entry_before(s, f, node), c),
         },
     }
 }

@@ -4,11 +4,10 @@
 ghost use mathlib.Core.Path.{_≡_};
 ghost use Prim.Native.Nat.{_*_, _<_, _≤_};
 ghost use lib.ListN.{length};
-ghost use Rattle.image.specs.Limits.{headerSize};
 ghost use Rattle.image.specs.Readers.{bind};
-ghost use Rattle.image.specs.Nodes.{count, free, slot, leadAt, nodeFrom, leadOf, nodeAt, linksAt, linkOf};
+ghost use Rattle.image.specs.Nodes.{slot, leadAt, nodeFrom, leadOf, nodeAt};
 ghost use Rattle.image.specs.Sound.{headerHolds};
-ghost use Rattle.table.specs.Nodes.{leadRead, nodeRead, Numbered, LinkInside};
+ghost use Rattle.table.specs.Nodes.{FrameIs, leadRead, nodeRead, Numbered};
 use crate::entries::Keyed;
 use crate::entries::KeyedRead;
 use crate::entries::Parts;
@@ -32,47 +31,56 @@ pub const LEVELS: usize = 12;
 // Where the links of the head stand in the header.
 pub const HEAD_LINKS: usize = 16;
 
-// Whether the header holds: length, levels, count and first free byte are each within their limits.
+// Count and first free byte of an image whose header holds, as they were read once.
+pub struct Frame {
+    pub count: usize,
+    pub free: usize,
+}
+
+// The frame of an image, or that its header does not hold.
+pub enum FrameRead {
+    Good(Frame),
+    Bad,
+}
+
+// Reads the header once: length, levels, count and first free byte, each within its limits.
+pub(crate) fn read_frame(s: &[u8]) -> FrameRead
+    ensures { λ r. ⌜ FrameIs (now (s .entry)) r ⌝ }
+{
+    if s.len() < HEADER_SIZE {
+        return FrameRead::Bad;
+    }
+    if s.len() > MAX_IMAGE {
+        return FrameRead::Bad;
+    }
+    if get_word(s, 0) != s.len() {
+        return FrameRead::Bad;
+    }
+    if get_word(s, 12) != LEVELS {
+        return FrameRead::Bad;
+    }
+    let count = get_word(s, 4);
+    if count > MAX_NODES {
+        return FrameRead::Bad;
+    }
+    let free = get_word(s, 8);
+    if free < HEADER_SIZE {
+        return FrameRead::Bad;
+    }
+    if free + 4 * count > s.len() {
+        return FrameRead::Bad;
+    }
+    FrameRead::Good(Frame { count, free })
+}
+
+// Whether the header holds.
 pub fn header_holds(s: &[u8]) -> bool
     ensures { λ r. ⌜ r ≡ headerHolds (now (s .entry)) ⌝ }
 {
-    if s.len() < HEADER_SIZE {
-        return false;
+    match read_frame(s) {
+        FrameRead::Good(_) => true,
+        FrameRead::Bad => false,
     }
-    if s.len() > MAX_IMAGE {
-        return false;
-    }
-    if get_word(s, 0) != s.len() {
-        return false;
-    }
-    if get_word(s, 12) != LEVELS {
-        return false;
-    }
-    let n = count(s);
-    if n > MAX_NODES {
-        return false;
-    }
-    let used = free(s);
-    if used < HEADER_SIZE {
-        return false;
-    }
-    used + 4 * n <= s.len()
-}
-
-// The node count.
-pub(crate) fn count(s: &[u8]) -> usize
-    requires { ⌜ headerSize ≤ length (now s) ⌝ }
-    ensures { λ r. ⌜ (r ≡ count (now (s .entry))) × (r < 4294967296) ⌝ }
-{
-    get_word(s, 4)
-}
-
-// The first free byte.
-pub(crate) fn free(s: &[u8]) -> usize
-    requires { ⌜ headerSize ≤ length (now s) ⌝ }
-    ensures { λ r. ⌜ (r ≡ free (now (s .entry))) × (r < 4294967296) ⌝ }
-{
-    get_word(s, 8)
 }
 
 // What slot i holds, the offset of node i.
@@ -170,36 +178,17 @@ pub(crate) fn node_at(s: &[u8], limit: usize, o: usize) -> NodeRead
 }
 
 // The lead of node i.
-pub(crate) fn lead_of(s: &[u8], i: usize) -> LeadRead
-    requires { ⌜ Numbered (now s) i ⌝ }
+pub(crate) fn lead_of(s: &[u8], f: Frame, i: usize) -> LeadRead
+    requires { ⌜ Numbered (now s) f i ⌝ }
     ensures { λ r. ⌜ leadRead r ≡ leadOf (now (s .entry)) i ⌝ }
 {
-    lead_at(s, free(s), slot(s, i))
+    lead_at(s, f.free, slot(s, i))
 }
 
 // Node i.
-pub(crate) fn node_of(s: &[u8], i: usize) -> NodeRead
-    requires { ⌜ Numbered (now s) i ⌝ }
+pub(crate) fn node_of(s: &[u8], f: Frame, i: usize) -> NodeRead
+    requires { ⌜ Numbered (now s) f i ⌝ }
     ensures { λ r. ⌜ nodeRead r ≡ nodeAt (now (s .entry)) i ⌝ }
 {
-    node_at(s, free(s), slot(s, i))
-}
-
-// Where the links of node i start; node 0 is the head, whose links stand in the header.
-pub(crate) fn links_at(s: &[u8], i: usize) -> usize
-    requires { ⌜ 4 * i ≤ length (now s) ⌝ }
-    ensures { λ r. ⌜ (r ≡ linksAt (now (s .entry)) i) × (r < 4294967304) ⌝ }
-{
-    if i < 1 {
-        return HEAD_LINKS;
-    }
-    slot(s, i) + 8
-}
-
-// The link of node i, or of the head, at a level: a node number, 0 for none.
-pub(crate) fn link_of(s: &[u8], i: usize, level: usize) -> usize
-    requires { ⌜ LinkInside (now s) i level ⌝ }
-    ensures { λ r. ⌜ (r ≡ linkOf (now (s .entry)) i level) × (r < 4294967296) ⌝ }
-{
-    get_word(s, links_at(s, i) + 4 * level)
+    node_at(s, f.free, slot(s, i))
 }

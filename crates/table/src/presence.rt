@@ -11,9 +11,11 @@ use crate::key_types::Number;
 use crate::key_types::Tag;
 use crate::memtable::Lookup;
 use crate::memtable::get;
+use crate::nodes::Frame;
+use crate::nodes::FrameRead;
 use crate::nodes::NodeRead;
-use crate::nodes::header_holds;
 use crate::nodes::node_of;
+use crate::nodes::read_frame;
 use crate::refusals::Refusal;
 use crate::skipmap::OnEqual;
 use crate::skipmap::Spot;
@@ -27,11 +29,11 @@ pub enum Presence {
 }
 
 // Whether the node at which a search stopped has this type too.
-fn held_at(s: &[u8], node: usize, kind: u8, looks: usize) -> Presence
-    requires { ⌜ Numbered (now s) node ⌝ }
+fn held_at(s: &[u8], f: Frame, node: usize, kind: u8, looks: usize) -> Presence
+    requires { ⌜ Numbered (now s) f node ⌝ }
     ensures { λ r. ⌜ presenceAs r ≡ reading (heldAt (now (s .entry)) kind (hit node looks)) (λ b. given (record { held = b; looks = looks })) ⌝ }
 {
-    let read = node_of(s, node);
+    let read = node_of(s, f, node);
     match read {
         NodeRead::Bad(_) => Presence::Refused(Refusal::Damaged),
         NodeRead::Got(m) => {
@@ -48,9 +50,9 @@ fn held_at(s: &[u8], node: usize, kind: u8, looks: usize) -> Presence
 pub fn contains(s: &[u8], key: &[u8], number: u64, kind: u8) -> Presence
     ensures { λ r. ⌜ Contains (now (s .entry)) (now (key .entry)) number kind r ⌝ }
 {
-    if !header_holds(s) {
+    let FrameRead::Good(f) = read_frame(s) else {
         return Presence::Refused(Refusal::BadImage);
-    }
+    };
     if !Tag::known(kind) {
         return Presence::Refused(Refusal::BadKind);
     }
@@ -60,11 +62,11 @@ pub fn contains(s: &[u8], key: &[u8], number: u64, kind: u8) -> Presence
     if key.len() > MAX_KEY {
         return Presence::Refused(Refusal::LongKey);
     }
-    let found = search(s, OnEqual::Stop, key, number);
+    let found = search(s, f, OnEqual::Stop, key, number);
     let spot = found.spot;
     match spot {
         Spot::Bad(_) => Presence::Refused(Refusal::Damaged),
-        Spot::Hit { node, looks } => held_at(s, node, kind, looks),
+        Spot::Hit { node, looks } => held_at(s, f, node, kind, looks),
         Spot::Ends {
             before: _,
             after: _,

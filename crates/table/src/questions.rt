@@ -16,12 +16,11 @@ use crate::memtable::Said;
 use crate::memtable::said_at;
 use crate::memtable_iter::EntryCursor;
 use crate::memtable_iter::EntryFound;
-use crate::memtable_iter::at_or_after;
 use crate::memtable_iter::first_entry;
+use crate::memtable_iter::first_not_passed;
 use crate::memtable_iter::last_before;
-use crate::memtable_iter::standing;
-use crate::nodes::count;
-use crate::nodes::header_holds;
+use crate::nodes::FrameRead;
+use crate::nodes::read_frame;
 use crate::skipmap::OnEqual;
 use crate::skipmap::Spot;
 use crate::skipmap::search;
@@ -50,10 +49,10 @@ pub fn past(cut: Cut) -> Cut
 pub fn population(s: &[u8]) -> usize
     ensures { λ r. ⌜ r ≡ nodesOf (now (s .entry)) ⌝ }
 {
-    if header_holds(s) {
-        return count(s);
+    match read_frame(s) {
+        FrameRead::Good(f) => f.count,
+        FrameRead::Bad => 0,
     }
-    0
 }
 
 // Whether the key a is less than the key b.
@@ -99,18 +98,18 @@ fn hit_at(found: EntryFound) -> Hit
     }
 }
 
-// A node with the key that comes next behind a cut.
+// A node with the key that comes next behind a cut. It can be read whole.
 pub fn near(s: &[u8], cut: Cut, key: &[u8]) -> Hit
     ensures { λ r. ⌜ Nears (now (s .entry)) (cutOf cut) (now (key .entry)) r ⌝ }
 {
-    if !header_holds(s) {
+    let FrameRead::Good(f) = read_frame(s) else {
         return Hit::Damaged;
-    }
+    };
     match cut {
-        Cut::All => hit_at(first_entry(s)),
-        Cut::From => hit_at(at_or_after(s, key, Number::MAX)),
-        Cut::Above => hit_at(standing(search(s, OnEqual::Pass, key, 0))),
-        Cut::Below => hit_at(last_before(s, key, Number::MAX)),
+        Cut::All => hit_at(first_entry(s, f)),
+        Cut::From => hit_at(first_not_passed(s, f, OnEqual::Stop, key, Number::MAX)),
+        Cut::Above => hit_at(first_not_passed(s, f, OnEqual::Pass, key, 0)),
+        Cut::Below => hit_at(last_before(s, f, key, Number::MAX)),
     }
 }
 
@@ -138,18 +137,18 @@ fn with_node(said: Said, node: usize) -> NewestAt
 pub fn newest(s: &[u8], key: &[u8], number: u64) -> NewestAt
     ensures { λ r. ⌜ TellsNewest (now (s .entry)) (now (key .entry)) number r ⌝ }
 {
-    if !header_holds(s) {
+    let FrameRead::Good(f) = read_frame(s) else {
         return NewestAt::Damaged;
-    }
-    let found = search(s, OnEqual::Stop, key, number);
+    };
+    let found = search(s, f, OnEqual::Stop, key, number);
     let spot = found.spot;
     match spot {
         Spot::Bad(_) => NewestAt::Damaged,
-        Spot::Hit { node, looks: _ } => with_node(said_at(s, key, node), node),
+        Spot::Hit { node, looks: _ } => with_node(said_at(s, f, key, node), node),
         Spot::Ends {
             before: _,
             after,
             looks: _,
-        } => with_node(said_at(s, key, after), after),
+        } => with_node(said_at(s, f, key, after), after),
     }
 }

@@ -3,21 +3,20 @@
 // that: on any bytes behind a good header a search ends after n + 12 looks at most. Nothing here writes.
 ghost use mathlib.Core.Path.{_≡_};
 ghost use Prim.Native.Nat.{_≤_};
-ghost use Rattle.image.specs.Readers.{got, bad};
-ghost use Rattle.image.specs.Nodes.{count};
-ghost use Rattle.image.specs.Sound.{Header};
-ghost use Rattle.image.specs.Search.{turnBy, hit, ends, meet, searched};
+ghost use Rattle.image.specs.Readers.{got};
+ghost use Rattle.image.specs.Nodes.{linksAt};
+ghost use Rattle.image.specs.Search.{turnBy, meet};
 ghost use Rattle.table.specs.KeyTypes.{ordOf};
-ghost use Rattle.table.specs.Skipmap.{modeOf, turnRead, searchRead};
+ghost use Rattle.table.specs.Nodes.{Framed};
+ghost use Rattle.table.specs.Skipmap.{modeOf, turnRead, LinksFrom, searchedBad, searchedHit, searchedEnds, Searches};
 use crate::entries::key_in;
 use crate::key_types::Ordering;
 use crate::key_types::compare_entries;
+use crate::nodes::Frame;
 use crate::nodes::HEAD_LINKS;
 use crate::nodes::LEVELS;
 use crate::nodes::LeadRead;
-use crate::nodes::count;
 use crate::nodes::lead_of;
-use crate::nodes::links_at;
 use crate::words::get_word;
 
 // What a search does at a node equal to its probe.
@@ -27,25 +26,25 @@ pub enum OnEqual {
     Pass,
 }
 
-// What a look says: pass the node, stop at it, or go down; or the place of the byte at fault.
+// What a look says: pass the node, whose links stand at a place, stop at it, or go down; or the place of the byte at fault.
 pub enum TurnRead {
-    Onward,
+    Onward(usize),
     Halt,
     Below,
     Bad(usize),
 }
 
-// Passes a node while it is smaller, else goes down; on equality by the mode.
-pub fn turn_by(mode: OnEqual, o: Ordering) -> TurnRead
-    ensures { λ r. ⌜ turnRead r ≡ got (turnBy (modeOf mode) (ordOf o)) ⌝ }
+// Passes a node, whose links stand at a place, while it is smaller, else goes down; on equality by the mode.
+pub(crate) fn turn_by(mode: OnEqual, o: Ordering, links: usize) -> TurnRead
+    ensures { λ r. ⌜ (turnRead r ≡ got (turnBy (modeOf mode) (ordOf o))) × LinksFrom links r ⌝ }
 {
     match o {
-        Ordering::Less => TurnRead::Onward,
+        Ordering::Less => TurnRead::Onward(links),
         Ordering::Greater => TurnRead::Below,
         Ordering::Equal => match mode {
             OnEqual::Stop => TurnRead::Halt,
             OnEqual::GoDown => TurnRead::Below,
-            OnEqual::Pass => TurnRead::Onward,
+            OnEqual::Pass => TurnRead::Onward(links),
         },
     }
 }
@@ -53,6 +52,7 @@ pub fn turn_by(mode: OnEqual, o: Ordering) -> TurnRead
 // What the link at the place from says that names node x, or none; one that names a node too low for the level is bad.
 pub(crate) fn meet_at(
     s: &[u8],
+    f: Frame,
     mode: OnEqual,
     k: &[u8],
     number: u64,
@@ -60,13 +60,13 @@ pub(crate) fn meet_at(
     from: usize,
     x: usize,
 ) -> TurnRead
-    requires { ⌜ Header (now s) × (x ≤ count (now s)) ⌝ }
-    ensures { λ r. ⌜ turnRead r ≡ meet (now (s .entry)) (modeOf mode) (now (k .entry)) number level from x ⌝ }
+    requires { ⌜ Framed (now s) f × (x ≤ f .count) ⌝ }
+    ensures { λ r. ⌜ (turnRead r ≡ meet (now (s .entry)) (modeOf mode) (now (k .entry)) number level from x) × LinksFrom (linksAt (now (s .entry)) x) r ⌝ }
 {
     if x < 1 {
         return TurnRead::Below;
     }
-    let lead = lead_of(s, x);
+    let lead = lead_of(s, f, x);
     match lead {
         LeadRead::Bad(fault) => TurnRead::Bad(fault),
         LeadRead::Got(m) => {
@@ -76,7 +76,7 @@ pub(crate) fn meet_at(
             let keyed = m.keyed;
             let tag = keyed.tag;
             let o = compare_entries(key_in(s, keyed), tag.number(), k, number);
-            turn_by(mode, o)
+            turn_by(mode, o, m.start + 8)
         }
     }
 }
@@ -95,36 +95,36 @@ pub enum Spot {
     Bad(usize),
 }
 
-// Where a search ends, and the node that it passed last at each level.
+// Where a search ends, and at each level the place of the link that it went down from.
 pub struct Searched {
     pub spot: Spot,
-    pub prev: [usize; 12],
+    pub places: [usize; 12],
 }
 
 impl Searched {
     // A search that met a byte at fault.
-    pub fn bad(fault: usize, prev: [usize; 12]) -> Searched
-        ensures { λ r. ⌜ searchRead r ≡ bad fault ⌝ }
+    fn bad(fault: usize, places: [usize; 12]) -> Searched
+        ensures { λ r. ⌜ r ≡ searchedBad fault places ⌝ }
     {
         Searched {
             spot: Spot::Bad(fault),
-            prev,
+            places,
         }
     }
 
     // A search that stopped at a node.
-    pub fn hit(node: usize, looks: usize, prev: [usize; 12]) -> Searched
-        ensures { λ r. ⌜ searchRead r ≡ got (hit node looks) ⌝ }
+    fn hit(node: usize, looks: usize, places: [usize; 12]) -> Searched
+        ensures { λ r. ⌜ r ≡ searchedHit node looks places ⌝ }
     {
         Searched {
             spot: Spot::Hit { node, looks },
-            prev,
+            places,
         }
     }
 
     // A search that ended between two nodes.
-    pub fn ends(before: usize, after: usize, looks: usize, prev: [usize; 12]) -> Searched
-        ensures { λ r. ⌜ searchRead r ≡ got (ends before after looks prev) ⌝ }
+    fn ends(before: usize, after: usize, looks: usize, places: [usize; 12]) -> Searched
+        ensures { λ r. ⌜ r ≡ searchedEnds before after looks places ⌝ }
     {
         Searched {
             spot: Spot::Ends {
@@ -132,19 +132,20 @@ impl Searched {
                 after,
                 looks,
             },
-            prev,
+            places,
         }
     }
 }
 
-// From the head's top level: passes a node while it is smaller, else goes down; stops on equality or below level 0.
-pub(crate) fn search(s: &[u8], mode: OnEqual, k: &[u8], number: u64) -> Searched
-    requires { ⌜ Header (now s) ⌝ }
-    ensures { λ r. ⌜ searchRead r ≡ searched (now (s .entry)) (modeOf mode) (now (k .entry)) number ⌝ }
+// From the head's top level: passes a node while it is smaller, else goes down; stops on equality or below level 0. Each link is
+// read once, and so is what leads each node; the next link is reached from what is in hand.
+pub(crate) fn search(s: &[u8], f: Frame, mode: OnEqual, k: &[u8], number: u64) -> Searched
+    requires { ⌜ Framed (now s) f ⌝ }
+    ensures { λ r. ⌜ Searches (now (s .entry)) (modeOf mode) (now (k .entry)) number r ⌝ }
 {
-    let n = count(s);
+    let n = f.count;
     let most = n + LEVELS;
-    let mut prev: [usize; 12] = [0; 12];
+    let mut places: [usize; 12] = [0; 12];
     let mut before = 0;
     let mut links = HEAD_LINKS;
     let mut level = LEVELS - 1;
@@ -153,25 +154,25 @@ pub(crate) fn search(s: &[u8], mode: OnEqual, k: &[u8], number: u64) -> Searched
         let place = links + 4 * level;
         let after = get_word(s, place);
         if after > n {
-            return Searched::bad(place, prev);
+            return Searched::bad(place, places);
         }
-        let turn = meet_at(s, mode, k, number, level, place, after);
+        let turn = meet_at(s, f, mode, k, number, level, place, after);
         looks += 1;
         match turn {
-            TurnRead::Bad(fault) => return Searched::bad(fault, prev),
-            TurnRead::Halt => return Searched::hit(after, looks, prev),
-            TurnRead::Onward => {
+            TurnRead::Bad(fault) => return Searched::bad(fault, places),
+            TurnRead::Halt => return Searched::hit(after, looks, places),
+            TurnRead::Onward(at) => {
                 before = after;
-                links = links_at(s, after);
+                links = at;
             }
             TurnRead::Below => {
-                prev[level] = before;
+                places[level] = place;
                 if level == 0 {
-                    return Searched::ends(before, after, looks, prev);
+                    return Searched::ends(before, after, looks, places);
                 }
                 level -= 1;
             }
         }
     }
-    Searched::bad(links + 4 * level, prev)
+    Searched::bad(links + 4 * level, places)
 }

@@ -3,11 +3,6 @@ use Rattle.table.specs.Questions.{cutOf}
 use borrow.Author.Needs.{needs}
 use Rattle.cursor.proofs.db_iter.go_from.Statement.{statement}
 use Rattle.cursor.proofs.db_iter.go_from.Tie as tie
-use Rattle.cursor.proofs.db_iter.go_from.Reads as reads
-use Rattle.cursor.proofs.db_iter.go_from.Lts as lts
-use Rattle.cursor.proofs.db_iter.go.Reads as go-reads
-use Rattle.cursor.proofs.db_iter.place_refusal.Reads as place-refusal-reads
-use Rattle.cursor.proofs.places.key_at.Reads as key-at-reads
 
 -- src/db_iter.rt:143:8
 place-refusal-requires : tie.Need-place-refusal-requires
@@ -27,7 +22,7 @@ go-requires c κs = search needs
 
 -- src/db_iter.rt:132:1
 returns-2 : tie.Need-returns-2
-returns-2 c = let a = c .before .before .before .before .before .before .args in from-went (a .first .now) (a .second .now) (a .snapshot) (cutOf (a .cut)) (a .p) (a .at) (c .before .before .before .place-refusal .ensures) (c .before .key-at .ensures) _ (c .go .ensures)
+returns-2 c = let a = c .before .before .before .before .before .before .args in from-went (a .first .now) (a .second .now) (a .snapshot) (cutOf (a .cut)) (a .p) (a .at) (c .before .before .before .place-refusal .ensures) (c .before .before .if1 .left) (c .before .key-at .ensures) _ (c .go .ensures)
 
 pub go-from-spec : {M : Type 1} → statement M
 go-from-spec =

@@ -1,32 +1,40 @@
 -- `check::check`: the header first, then the pass over the nodes, then the walk along the chains, which decides.
-use Rattle.table.proofs.Checking.{bad-header, header-is, bad-nodes, whole-nodes, chains-decide}
+use Rattle.table.proofs.Checking.{bad-header, bad-nodes, whole-nodes, chains-decide}
 use borrow.Author.Needs.{needs}
 use Rattle.table.proofs.check.check.Statement.{statement}
 use Rattle.table.proofs.check.check.Tie as tie
 
-header-holds-requires : tie.Need-header-holds-requires
-header-holds-requires c κs = search needs
+read-frame-requires : tie.Need-read-frame-requires
+read-frame-requires c κs = search needs
+
+enum-known-f : tie.Need-enum-known-f
+enum-known-f c = search needs
+
+enum-told : tie.Need-enum-told
+enum-told c = search needs
 
 returns : tie.Need-returns
-returns c = bad-header _ (λ i. c .before .before .shared-slice-known .given i .fits) (c .before .header-holds .ensures) (c .if1 .taken)
+returns c = bad-header _ (λ i. c .before .before .before .shared-slice-known .given i .fits) (rw (c .enum-told .given .1) at (c .before .before .read-frame .ensures))
 
 nodes-run-requires : tie.Need-nodes-run-requires
-nodes-run-requires c κs = header-is _ (λ i. c .before .before .shared-slice-known .given i .fits) (c .before .header-holds .ensures) (c .if1 .left)
+nodes-run-requires c κs = (rw (c .before .f .given .1) at (c .before .before .before .read-frame .ensures))
 
 returns-2 : tie.Need-returns-2
-returns-2 c = bad-nodes _ (λ i. c .before .before .before .before .shared-slice-known .given i .fits) (c .before .before .before .header-holds .ensures) (c .before .before .if1 .left) (c .before .nodes-run .ensures) (c .if2 .taken)
+returns-2 c = bad-nodes _ (λ i. c .before .before .before .before .before .before .shared-slice-known .given i .fits) (rw (c .before .before .before .f .given .1) at (c .before .before .before .before .before .read-frame .ensures)) (c .before .nodes-run .ensures) (c .if1 .taken)
 
 threads-requires : tie.Need-threads-requires
-threads-requires c κs = whole-nodes _ (λ i. c .before .before .before .before .shared-slice-known .given i .fits) (c .before .before .before .header-holds .ensures) (c .before .before .if1 .left) (c .before .nodes-run .ensures) (c .if2 .left)
+threads-requires c κs = (whole-nodes _ (λ i. c .before .before .before .before .before .before .shared-slice-known .given i .fits) (rw (c .before .before .before .f .given .1) at (c .before .before .before .before .before .read-frame .ensures)) (c .before .nodes-run .ensures) (c .if1 .left), (rw (c .before .before .before .f .given .1) at (c .before .before .before .before .before .read-frame .ensures)))
 
 returns-3 : tie.Need-returns-3
-returns-3 c = chains-decide _ (λ i. c .before .before .before .before .before .shared-slice-known .given i .fits) (c .before .before .before .before .header-holds .ensures) (c .before .before .before .if1 .left) (c .before .before .nodes-run .ensures) (c .before .if2 .left) (c .threads .ensures)
+returns-3 c = chains-decide _ (λ i. c .before .before .before .before .before .before .before .shared-slice-known .given i .fits) (rw (c .before .before .before .before .f .given .1) at (c .before .before .before .before .before .before .read-frame .ensures)) (c .before .before .nodes-run .ensures) (c .before .if1 .left) (c .threads .ensures)
 
 pub check-spec : {M : Type 1} → statement M
 check-spec =
     tie.close
     (tie.spec
-    header-holds-requires
+    read-frame-requires
+    enum-known-f
+    enum-told
     returns
     nodes-run-requires
     returns-2

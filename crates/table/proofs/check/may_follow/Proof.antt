@@ -1,42 +1,23 @@
--- `check::may_follow`: none comes before the first, and else the entries decide.
-use Rattle.table.proofs.Checking.{none-before, one-before}
+-- `check::may_follow`: nothing comes before the first, and else the entries decide.
 use borrow.Author.Needs.{needs}
 use Rattle.table.proofs.check.may_follow.Statement.{statement}
 use Rattle.table.proofs.check.may_follow.Tie as tie
 
-returns : tie.Need-returns
-returns c = none-before _ _ _ (c .if1 .taken)
-
-compare-nodes-requires : tie.Need-compare-nodes-requires
-compare-nodes-requires c κs = search needs
-
 enum-told : tie.Need-enum-told
 enum-told c = search needs
 
-enum-told-2 : tie.Need-enum-told-2
-enum-told-2 c = search needs
+enum-known-last : tie.Need-enum-known-last
+enum-known-last c = search needs
 
-enum-told-3 : tie.Need-enum-told-3
-enum-told-3 c = search needs
+entry-less-requires : tie.Need-entry-less-requires
+entry-less-requires c κs = ((rw (c .before .last .given .1) at (c .before .before .before .before .pre .0)) .inside, (c .before .before .before .before .pre .1) .inside)
+
+returns : tie.Need-returns
+returns c = rw (c .enum-told .given .1)
 
 returns-2 : tie.Need-returns-2
-returns-2 c = one-before _ _ _ (c .before .before .before .if1 .left) (rw (c .enum-told .given .1) at (c .before .before .compare-nodes .ensures))
-
-returns-3 : tie.Need-returns-3
-returns-3 c = one-before _ _ _ (c .before .before .before .if1 .left) (rw (c .enum-told2 .given .1) at (c .before .before .compare-nodes .ensures))
-
-returns-4 : tie.Need-returns-4
-returns-4 c = one-before _ _ _ (c .before .before .before .if1 .left) (rw (c .enum-told3 .given .1) at (c .before .before .compare-nodes .ensures))
+returns-2 c = rw (c .before .before .last .given .1) (c .entry-less .ensures)
 
 pub may-follow-spec : {M : Type 1} → statement M
 may-follow-spec =
-    tie.close
-    (tie.spec
-    returns
-    compare-nodes-requires
-    enum-told
-    enum-told-2
-    enum-told-3
-    returns-2
-    returns-3
-    returns-4)
+    tie.close (tie.spec enum-told enum-known-last entry-less-requires returns returns-2)

@@ -1,6 +1,6 @@
 -- `check::nodes_run`: one node a turn, each where the one before it ends.
-use borrow.Author.Needs.{needs}
 use Rattle.table.proofs.Checking.{Passing, pass-begins, pass-ends, pass-apart, pass-bad, pass-on}
+use borrow.Author.Needs.{needs}
 use Rattle.table.proofs.check.nodes_run.Statement.{statement}
 use Rattle.table.proofs.check.nodes_run.Tie as tie
 
@@ -10,14 +10,8 @@ Inv-loop s used left₀ i₀ end₀ left i end = Passing s left i end
 abbrev μ-loop : tie.MeasureT-loop
 μ-loop s used left₀ i₀ end₀ left i end = left
 
-free-requires : tie.Need-free-requires Inv-loop μ-loop
-free-requires c κs = search needs
-
-count-requires : tie.Need-count-requires Inv-loop μ-loop
-count-requires c κs = search needs
-
 loop-holds : tie.Need-loop-holds Inv-loop μ-loop
-loop-holds c = pass-begins _ (c .count .ensures .0)
+loop-holds c = pass-begins _ (c .before .pre .count-is)
 
 slot-requires : tie.Need-slot-requires Inv-loop μ-loop
 slot-requires c κs = search needs
@@ -35,7 +29,7 @@ enum-told : tie.Need-enum-told Inv-loop μ-loop
 enum-told c = search needs
 
 returns-2 : tie.Need-returns-2 Inv-loop μ-loop
-returns-2 c = let d = c .before .before .before in pass-bad _ (d .before .before .before .loop .inv) (d .before .before .loop-test .taken) (d .before .slot .ensures .0) (d .if1 .left) (d .before .before .before .before .before .free .ensures .0) (rw (c .enum-told .given .1) at (c .before .before .node-at .ensures))
+returns-2 c = pass-bad _ (c .before .before .before .before .before .before .loop .inv) (c .before .before .before .before .before .loop-test .taken) (c .before .before .before .before .slot .ensures .0) (c .before .before .before .if1 .left) (c .before .before .before .before .before .before .before .before .pre .free-is) (rw (c .enum-told .given .1) at (c .before .before .node-at .ensures))
 
 add-i : tie.Need-add-i Inv-loop μ-loop
 add-i c = search needs
@@ -47,10 +41,10 @@ loop-less : tie.Need-loop-less Inv-loop μ-loop
 loop-less c = search needs
 
 loop-again : tie.Need-loop-again Inv-loop μ-loop
-loop-again c = let d = c .before .before .before .before in pass-on _ (d .before .before .before .loop .inv) (d .before .before .loop-test .taken) (d .before .slot .ensures .0) (d .if1 .left) (d .before .before .before .before .before .free .ensures .0) (rw (c .before .node .given .1) at (c .before .before .before .node-at .ensures))
+loop-again c = pass-on _ (c .before .before .before .before .before .before .before .loop .inv) (c .before .before .before .before .before .before .loop-test .taken) (c .before .before .before .before .before .slot .ensures .0) (c .before .before .before .before .if1 .left) (c .before .before .before .before .before .before .before .before .before .pre .free-is) (rw (c .before .node .given .1) at (c .before .before .before .node-at .ensures))
 
 returns-3 : tie.Need-returns-3 Inv-loop μ-loop
-returns-3 c = pass-ends _ (c .before .loop .inv) (c .loop-test .left) (c .before .before .before .free .ensures .0)
+returns-3 c = pass-ends _ (c .before .loop .inv) (c .loop-test .left) (c .before .before .before .pre .free-is)
 
 pub nodes-run-spec : {M : Type 1} → statement M
 nodes-run-spec =
@@ -58,8 +52,6 @@ nodes-run-spec =
     (tie.spec
     Inv-loop
     μ-loop
-    free-requires
-    count-requires
     loop-holds
     slot-requires
     returns

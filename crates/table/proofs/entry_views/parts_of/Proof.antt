@@ -2,27 +2,19 @@ use Rattle.table.proofs.Views.{parts-bad, parts-got}
 use borrow.Author.Needs.{needs}
 use Rattle.table.proofs.entry_views.parts_of.Statement.{statement}
 use Rattle.table.proofs.entry_views.parts_of.Tie as tie
-use Rattle.table.proofs.entry_views.parts_of.Reads as reads
-use Rattle.table.proofs.entry_views.parts_of.Lts as lts
-use Rattle.table.proofs.nodes.node_of.Reads as node-of-reads
 
--- src/entry_views.rt:29:9
 node-of-requires : tie.Need-node-of-requires
 node-of-requires c κs = search needs
 
--- src/entry_views.rt:31:46
 enum-told : tie.Need-enum-told
 enum-told c = search needs
 
--- src/entry_views.rt:32:23
 enum-known-read : tie.Need-enum-known-read
 enum-known-read c = search needs
 
--- src/entry_views.rt:25:1
 returns : tie.Need-returns
 returns c = let a = c .before .before .before .before .args in parts-bad (a .s .now) (a .node) (rw (c .enum-told .given .1) at (c .before .before .node-of .ensures))
 
--- src/entry_views.rt:25:1
 returns-2 : tie.Need-returns-2
 returns-2 c = let a = c .before .before .before .before .before .before .args in parts-got (a .s .now) (a .node) _ (c .before .before .before .before .before .before .pre) (rw (c .before .before .read .given .1) at (c .before .before .before .before .node-of .ensures))
 

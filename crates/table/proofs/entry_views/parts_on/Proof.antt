@@ -1,50 +1,37 @@
-use Rattle.table.proofs.Views.{parts-refused, parts-nowhere, parts-node}
-use Rattle.table.proofs.Cursors.{numbered}
+use mathlib.Core.Path.{ap}
 use Rattle.table.specs.MemtableIter.{cursorIs}
-use mathlib.Core.Path.{_≡_, refl, sym, ap, _∙_}
+use Rattle.table.proofs.Cursors.{numbered}
+use Rattle.table.proofs.Views.{parts-refused, parts-nowhere, parts-node}
 use borrow.Author.Needs.{needs}
 use Rattle.table.proofs.entry_views.parts_on.Statement.{statement}
 use Rattle.table.proofs.entry_views.parts_on.Tie as tie
-use Rattle.table.proofs.entry_views.parts_on.Reads as reads
-use Rattle.table.proofs.entry_views.parts_on.Lts as lts
-use Rattle.table.proofs.entry_views.parts_of.Reads as parts-of-reads
-use Rattle.table.proofs.memtable_iter.test_cursor.Reads as test-cursor-reads
 
--- src/entry_views.rt:43:9
 test-cursor-requires : tie.Need-test-cursor-requires
 test-cursor-requires c κs = search needs
 
--- src/entry_views.rt:45:28
 enum-known-test : tie.Need-enum-known-test
 enum-known-test c = search needs
 
--- src/entry_views.rt:46:31
+enum-known-test-2 : tie.Need-enum-known-test-2
+enum-known-test-2 c = search needs
+
 enum-told : tie.Need-enum-told
 enum-told c = search needs
 
--- src/entry_views.rt:47:37
-enum-told-2 : tie.Need-enum-told-2
-enum-told-2 c = search needs
-
--- src/entry_views.rt:48:29
 enum-known-c : tie.Need-enum-known-c
 enum-known-c c = search needs
 
--- src/entry_views.rt:48:38
 parts-of-requires : tie.Need-parts-of-requires
-parts-of-requires c κs = let a = c .before .before .before .before .before .before .before .args in numbered (a .s .now) (cursorIs (a .c)) (c .before .before .before .before .before .test-cursor .ensures) (c .before .before .before .enum-told .given .1) (ap cursorIs (c .before .c .given .1))
+parts-of-requires c κs = let a = c .before .before .before .before .before .before .before .before .args in numbered (a .s .now) (cursorIs (a .c)) (c .before .before .before .before .before .before .test-cursor .ensures) (c .before .before .before .before .test2 .given .1) (ap cursorIs (c .before .c .given .1))
 
--- src/entry_views.rt:40:1
 returns : tie.Need-returns
 returns c = let a = c .before .before .before .before .before .args in parts-refused (a .s .now) (a .c) (c .before .before .before .test-cursor .ensures) (c .before .test .given .1)
 
--- src/entry_views.rt:40:1
 returns-2 : tie.Need-returns-2
-returns-2 c = let a = c .before .before .before .before .before .before .args in parts-nowhere (a .s .now) (a .c) (c .before .before .before .before .test-cursor .ensures) (c .before .before .enum-told .given .1) (c .enum-told2 .given .1)
+returns-2 c = let a = c .before .before .before .before .before .before .before .args in parts-nowhere (a .s .now) (a .c) (c .before .before .before .before .before .test-cursor .ensures) (c .before .before .before .test2 .given .1) (c .enum-told .given .1)
 
--- src/entry_views.rt:40:1
 returns-3 : tie.Need-returns-3
-returns-3 c = let a = c .before .before .before .before .before .before .before .before .args in parts-node (a .s .now) (a .c) (c .before .before .before .before .before .before .test-cursor .ensures) (c .before .before .before .before .enum-told .given .1) (c .before .before .c .given .1) _ (c .parts-of .ensures)
+returns-3 c = let a = c .before .before .before .before .before .before .before .before .before .args in parts-node (a .s .now) (a .c) (c .before .before .before .before .before .before .before .test-cursor .ensures) (c .before .before .before .before .before .test2 .given .1) (c .before .before .c .given .1) _ (c .parts-of .ensures)
 
 pub parts-on-spec : {M : Type 1} → statement M
 parts-on-spec =
@@ -52,8 +39,8 @@ parts-on-spec =
     (tie.spec
     test-cursor-requires
     enum-known-test
+    enum-known-test-2
     enum-told
-    enum-told-2
     enum-known-c
     parts-of-requires
     returns

@@ -1,63 +1,45 @@
-use Rattle.table.proofs.Cursors.{ready, numbered, move-refused, move-made}
+use mathlib.Core.Path.{refl, ap}
 use Rattle.table.specs.MemtableIter.{cursorIs}
-use mathlib.Core.Path.{_≡_, refl, sym, ap, _∙_}
+use Rattle.table.proofs.Cursors.{ready, numbered, move-refused, move-made}
 use borrow.Author.Needs.{needs}
 use Rattle.table.proofs.memtable_iter.entry_next.Statement.{statement}
 use Rattle.table.proofs.memtable_iter.entry_next.Tie as tie
-use Rattle.table.proofs.memtable_iter.entry_next.Reads as reads
-use Rattle.table.proofs.memtable_iter.entry_next.Lts as lts
-use Rattle.table.proofs.memtable_iter.end_move.Reads as end-move-reads
-use Rattle.table.proofs.memtable_iter.entry_after.Reads as entry-after-reads
-use Rattle.table.proofs.memtable_iter.first_entry.Reads as first-entry-reads
-use Rattle.table.proofs.memtable_iter.test_cursor.Reads as test-cursor-reads
 
--- src/memtable_iter.rt:203:9
 test-cursor-requires : tie.Need-test-cursor-requires
 test-cursor-requires c κs = search needs
 
--- src/memtable_iter.rt:205:28
 enum-known-test : tie.Need-enum-known-test
 enum-known-test c = search needs
 
--- src/memtable_iter.rt:206:31
+enum-known-test-2 : tie.Need-enum-known-test-2
+enum-known-test-2 c = search needs
+
 enum-told : tie.Need-enum-told
 enum-told c = search needs
 
--- src/memtable_iter.rt:207:46
-enum-told-2 : tie.Need-enum-told-2
-enum-told-2 c = search needs
-
--- src/memtable_iter.rt:207:46
 first-entry-requires : tie.Need-first-entry-requires
-first-entry-requires c κs = let a = c .before .before .before .before .before .before .args in ready (a .s .now) (cursorIs (a .c)) (c .before .before .before .before .test-cursor .ensures) (c .before .before .enum-told .given .1)
+first-entry-requires c κs = let a = c .before .before .before .before .before .before .before .args in ready (a .s .now) (cursorIs (a .c)) (c .before .before .before .before .before .test-cursor .ensures) (c .before .before .before .test2 .given .1)
 
--- src/memtable_iter.rt:207:37
 end-move-requires : tie.Need-end-move-requires
 end-move-requires c κs = search needs
 
--- src/memtable_iter.rt:208:29
 enum-known-c : tie.Need-enum-known-c
 enum-known-c c = search needs
 
--- src/memtable_iter.rt:208:47
 entry-after-requires : tie.Need-entry-after-requires
-entry-after-requires c κs = let a = c .before .before .before .before .before .before .before .args in numbered (a .s .now) (cursorIs (a .c)) (c .before .before .before .before .before .test-cursor .ensures) (c .before .before .before .enum-told .given .1) (ap cursorIs (c .before .c .given .1))
+entry-after-requires c κs = let a = c .before .before .before .before .before .before .before .before .args in numbered (a .s .now) (cursorIs (a .c)) (c .before .before .before .before .before .before .test-cursor .ensures) (c .before .before .before .before .test2 .given .1) (ap cursorIs (c .before .c .given .1))
 
--- src/memtable_iter.rt:208:38
 end-move-requires-2 : tie.Need-end-move-requires-2
 end-move-requires-2 c κs = search needs
 
--- src/memtable_iter.rt:200:1
 returns : tie.Need-returns
 returns c = move-refused _ _ _ (c .before .before .before .test-cursor .ensures) (c .before .test .given .1)
 
--- src/memtable_iter.rt:200:1
 returns-2 : tie.Need-returns-2
-returns-2 c = let a = c .before .before .before .before .before .before .before .before .args in move-made _ _ _ (c .before .before .before .before .before .before .test-cursor .ensures) (c .before .before .before .before .enum-told .given .1) (λ x. refl) _ (c .end-move .ensures .0) (c .before .before .enum-told2 .given .1) (rw (c .before .before .enum-told2 .given .1) at (c .end-move .ensures .1)) (c .before .first-entry .ensures)
+returns-2 c = move-made _ _ _ (c .before .before .before .before .before .before .before .test-cursor .ensures) (c .before .before .before .before .before .test2 .given .1) (λ x. refl) _ (c .end-move .ensures .0) (c .before .before .enum-told .given .1) (rw (c .before .before .enum-told .given .1) at (c .end-move .ensures .1)) (c .before .first-entry .ensures)
 
--- src/memtable_iter.rt:200:1
 returns-3 : tie.Need-returns-3
-returns-3 c = let a = c .before .before .before .before .before .before .before .before .before .args in move-made _ _ _ (c .before .before .before .before .before .before .before .test-cursor .ensures) (c .before .before .before .before .before .enum-told .given .1) (λ x. refl) _ (c .end-move2 .ensures .0) (c .before .before .before .c .given .1) (c .end-move2 .ensures .1) (c .before .entry-after .ensures)
+returns-3 c = move-made _ _ _ (c .before .before .before .before .before .before .before .before .test-cursor .ensures) (c .before .before .before .before .before .before .test2 .given .1) (λ x. refl) _ (c .end-move2 .ensures .0) (c .before .before .before .c .given .1) (c .end-move2 .ensures .1) (c .before .entry-after .ensures)
 
 pub entry-next-spec : {M : Type 1} → statement M
 entry-next-spec =
@@ -65,8 +47,8 @@ entry-next-spec =
     (tie.spec
     test-cursor-requires
     enum-known-test
+    enum-known-test-2
     enum-told
-    enum-told-2
     first-entry-requires
     end-move-requires
     enum-known-c

@@ -3,9 +3,6 @@ use borrow.Author.Needs.{needs}
 use Rattle.table.proofs.nodes.lead_of.Statement.{statement}
 use Rattle.table.proofs.nodes.lead_of.Tie as tie
 
-free-requires : tie.Need-free-requires
-free-requires c κs = search needs
-
 slot-requires : tie.Need-slot-requires
 slot-requires c κs = search needs
 
@@ -13,7 +10,7 @@ lead-at-requires : tie.Need-lead-at-requires
 lead-at-requires c κs = search needs
 
 returns : tie.Need-returns
-returns c = rw (c .before .before .free .ensures .0, c .before .slot .ensures .0) at (c .lead-at .ensures)
+returns c = rw (c .before .before .before .pre .framed .free-is, c .before .slot .ensures .0) at (c .lead-at .ensures)
 
 pub lead-of-spec : {M : Type 1} → statement M
-lead-of-spec = tie.close (tie.spec free-requires slot-requires lead-at-requires returns)
+lead-of-spec = tie.close (tie.spec slot-requires lead-at-requires returns)

@@ -3,9 +3,6 @@ use borrow.Author.Needs.{needs}
 use Rattle.table.proofs.nodes.node_of.Statement.{statement}
 use Rattle.table.proofs.nodes.node_of.Tie as tie
 
-free-requires : tie.Need-free-requires
-free-requires c κs = search needs
-
 slot-requires : tie.Need-slot-requires
 slot-requires c κs = search needs
 
@@ -13,7 +10,7 @@ node-at-requires : tie.Need-node-at-requires
 node-at-requires c κs = search needs
 
 returns : tie.Need-returns
-returns c = rw (c .before .before .free .ensures .0, c .before .slot .ensures .0) at (c .node-at .ensures)
+returns c = rw (c .before .before .before .pre .framed .free-is, c .before .slot .ensures .0) at (c .node-at .ensures)
 
 pub node-of-spec : {M : Type 1} → statement M
-node-of-spec = tie.close (tie.spec free-requires slot-requires node-at-requires returns)
+node-of-spec = tie.close (tie.spec slot-requires node-at-requires returns)

@@ -2,36 +2,25 @@ use Rattle.table.proofs.Presences.{held-bad, held-other, held-same}
 use borrow.Author.Needs.{needs}
 use Rattle.table.proofs.presence.held_at.Statement.{statement}
 use Rattle.table.proofs.presence.held_at.Tie as tie
-use Rattle.table.proofs.presence.held_at.Reads as reads
-use Rattle.table.proofs.presence.held_at.Lts as lts
-use Rattle.table.proofs.key_types.Tag.kind.Reads as kind-reads
-use Rattle.table.proofs.nodes.node_of.Reads as node-of-reads
 
--- src/presence.rt:34:9
 node-of-requires : tie.Need-node-of-requires
 node-of-requires c κs = search needs
 
--- src/presence.rt:36:47
 enum-told : tie.Need-enum-told
 enum-told c = search needs
 
--- src/presence.rt:37:23
 enum-known-read : tie.Need-enum-known-read
 enum-known-read c = search needs
 
--- src/presence.rt:39:16
 kind-requires : tie.Need-kind-requires
 kind-requires c κs = search needs
 
--- src/presence.rt:40:17
 returns : tie.Need-returns
 returns c = let a = c .before .before .before .before .before .before .before .before .args in held-other (a .s .now) (a .kind) (a .node) (a .looks) (rw (c .before .before .before .before .read .given .1) at (c .before .before .before .before .before .before .node-of .ensures)) (c .before .kind .ensures) (c .if1 .taken)
 
--- src/presence.rt:30:1
 returns-2 : tie.Need-returns-2
 returns-2 c = let a = c .before .before .before .before .args in held-bad (a .s .now) (a .kind) (a .node) (a .looks) (rw (c .enum-told .given .1) at (c .before .before .node-of .ensures))
 
--- src/presence.rt:30:1
 returns-3 : tie.Need-returns-3
 returns-3 c = let a = c .before .before .before .before .before .before .before .before .args in held-same (a .s .now) (a .kind) (a .node) (a .looks) (rw (c .before .before .before .before .read .given .1) at (c .before .before .before .before .before .before .node-of .ensures)) (c .before .kind .ensures) (c .if1 .left)
 

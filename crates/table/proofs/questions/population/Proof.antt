@@ -1,28 +1,23 @@
-use mathlib.Core.Path.{sym, _∙_}
-use Rattle.image.proofs.Sound.{header-sound}
+-- `questions::population`: the count of the header that was read, or none.
+use Rattle.table.proofs.Asking.{nodes-read, nodes-none}
 use borrow.Author.Needs.{needs}
 use Rattle.table.proofs.questions.population.Statement.{statement}
 use Rattle.table.proofs.questions.population.Tie as tie
-use Rattle.table.proofs.questions.population.Reads as reads
-use Rattle.table.proofs.questions.population.Lts as lts
-use Rattle.table.proofs.nodes.count.Reads as count-reads
-use Rattle.table.proofs.nodes.header_holds.Reads as header-holds-reads
 
--- src/questions.rt:53:8
-header-holds-requires : tie.Need-header-holds-requires
-header-holds-requires c κs = search needs
+read-frame-requires : tie.Need-read-frame-requires
+read-frame-requires c κs = search needs
 
--- src/questions.rt:54:9
-count-requires : tie.Need-count-requires
-count-requires c κs = header-sound (c .before .before .before .args .s .now) (sym (c .before .header-holds .ensures) ∙ c .if1 .taken) .long
+enum-known-f : tie.Need-enum-known-f
+enum-known-f c = search needs
 
--- src/questions.rt:54:9
+enum-told : tie.Need-enum-told
+enum-told c = search needs
+
 returns : tie.Need-returns
-returns c = c .count .ensures .0 ∙ rw (sym (c .before .before .header-holds .ensures) ∙ c .before .if1 .taken)
+returns c = let a = c .before .before .before .before .before .args in nodes-read (a .s .now) (rw (c .before .f .given .1) at (c .before .before .before .read-frame .ensures))
 
--- src/questions.rt:50:1
 returns-2 : tie.Need-returns-2
-returns-2 c = rw (sym (c .before .header-holds .ensures) ∙ c .if1 .left)
+returns-2 c = let a = c .before .before .before .before .args in nodes-none (a .s .now) (rw (c .enum-told .given .1) at (c .before .before .read-frame .ensures))
 
 pub population-spec : {M : Type 1} → statement M
-population-spec = tie.close (tie.spec header-holds-requires count-requires returns returns-2)
+population-spec = tie.close (tie.spec read-frame-requires enum-known-f enum-told returns returns-2)

@@ -1,3 +1,4 @@
+use mathlib.Core.Path.{refl}
 -- `skipmap::turn_by`: a case for each order, and on equality one for each mode.
 use borrow.Author.Needs.{needs}
 use Rattle.table.proofs.skipmap.turn_by.Statement.{statement}
@@ -22,19 +23,19 @@ enum-told-6 : tie.Need-enum-told-6
 enum-told-6 c = search needs
 
 returns : tie.Need-returns
-returns c = rw (c .enum-told .given .1)
+returns c = rw (c .enum-told .given .1) (refl, refl)
 
 returns-2 : tie.Need-returns-2
-returns-2 c = rw (c .enum-told2 .given .1)
+returns-2 c = rw (c .enum-told2 .given .1) (refl, tt)
 
 returns-3 : tie.Need-returns-3
-returns-3 c = rw (c .before .before .enum-told3 .given .1, c .enum-told4 .given .1)
+returns-3 c = rw (c .before .before .enum-told3 .given .1, c .enum-told4 .given .1) (refl, tt)
 
 returns-4 : tie.Need-returns-4
-returns-4 c = rw (c .before .before .enum-told3 .given .1, c .enum-told5 .given .1)
+returns-4 c = rw (c .before .before .enum-told3 .given .1, c .enum-told5 .given .1) (refl, tt)
 
 returns-5 : tie.Need-returns-5
-returns-5 c = rw (c .before .before .enum-told3 .given .1, c .enum-told6 .given .1)
+returns-5 c = rw (c .before .before .enum-told3 .given .1, c .enum-told6 .given .1) (refl, refl)
 
 pub turn-by-spec : {M : Type 1} → statement M
 turn-by-spec =
