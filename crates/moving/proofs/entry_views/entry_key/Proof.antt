@@ -1,0 +1,44 @@
+use borrow.Author.Needs.{needs}
+use Rattle.moving.proofs.entry_views.entry_key.Statement.{statement}
+use Rattle.moving.proofs.entry_views.entry_key.Tie as tie
+
+parts-on-requires : tie.Need-parts-on-requires
+parts-on-requires c κs = search needs
+
+enum-known-p : tie.Need-enum-known-p
+enum-known-p c = search needs
+
+slice-aggregate-result : tie.Need-slice-aggregate-result
+slice-aggregate-result c = search needs
+
+returns : tie.Need-returns
+returns c = search needs
+
+add-end : tie.Need-add-end
+add-end c = let i = rw (c .before .before .before .p .given .1) at (c .before .before .before .before .before .parts-on .ensures) in search needs
+
+sub-result : tie.Need-sub-result
+sub-result c = search needs
+
+part-result-start : tie.Need-part-result-start
+part-result-start c = search needs
+
+part-result-end : tie.Need-part-result-end
+part-result-end c = let i = rw (c .before .before .before .p .given .1) at (c .before .before .before .before .before .parts-on .ensures) in search needs
+
+returns-2 : tie.Need-returns-2
+returns-2 c = search needs
+
+pub entry-key-spec : {M : Type 1} → statement M
+entry-key-spec =
+    tie.close
+    (tie.spec
+    parts-on-requires
+    enum-known-p
+    slice-aggregate-result
+    returns
+    add-end
+    sub-result
+    part-result-start
+    part-result-end
+    returns-2)

@@ -1,0 +1,44 @@
+use borrow.Author.Needs.{needs}
+use Rattle.moving.proofs.entry_views.parts_on.Statement.{statement}
+use Rattle.moving.proofs.entry_views.parts_on.Tie as tie
+
+test-cursor-requires : tie.Need-test-cursor-requires
+test-cursor-requires c κs = search needs
+
+enum-known-test : tie.Need-enum-known-test
+enum-known-test c = search needs
+
+enum-known-test-2 : tie.Need-enum-known-test-2
+enum-known-test-2 c = search needs
+
+enum-told : tie.Need-enum-told
+enum-told c = search needs
+
+enum-known-c : tie.Need-enum-known-c
+enum-known-c c = search needs
+
+parts-of-requires : tie.Need-parts-of-requires
+parts-of-requires c κs = let i = rw (c .before .before .before .before .test2 .given .1) at (c .before .before .before .before .before .before .test-cursor .ensures) in let j = rw (c .before .c .given .1) at (i .1) in search needs
+
+returns : tie.Need-returns
+returns c = search needs
+
+returns-2 : tie.Need-returns-2
+returns-2 c = search needs
+
+returns-3 : tie.Need-returns-3
+returns-3 c = search needs
+
+pub parts-on-spec : {M : Type 1} → statement M
+parts-on-spec =
+    tie.close
+    (tie.spec
+    test-cursor-requires
+    enum-known-test
+    enum-known-test-2
+    enum-told
+    enum-known-c
+    parts-of-requires
+    returns
+    returns-2
+    returns-3)

@@ -1,0 +1,40 @@
+use borrow.Author.Needs.{needs}
+use Rattle.moving.proofs.memtable_iter.last_before.Statement.{statement}
+use Rattle.moving.proofs.memtable_iter.last_before.Tie as tie
+
+search-requires : tie.Need-search-requires
+search-requires c κs = search needs
+
+enum-told : tie.Need-enum-told
+enum-told c = search needs
+
+enum-told-2 : tie.Need-enum-told-2
+enum-told-2 c = search needs
+
+enum-known-spot : tie.Need-enum-known-spot
+enum-known-spot c = search needs
+
+land-requires : tie.Need-land-requires
+land-requires c κs = let t = rw (c .before .spot .given .1) at (c .before .before .before .search .ensures .spot) in search needs
+
+returns : tie.Need-returns
+returns c = search needs
+
+returns-2 : tie.Need-returns-2
+returns-2 c = search needs
+
+returns-3 : tie.Need-returns-3
+returns-3 c = search needs
+
+pub last-before-spec : {M : Type 1} → statement M
+last-before-spec =
+    tie.close
+    (tie.spec
+    search-requires
+    enum-told
+    enum-told-2
+    enum-known-spot
+    land-requires
+    returns
+    returns-2
+    returns-3)

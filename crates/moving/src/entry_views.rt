@@ -1,0 +1,114 @@
+// Made by tools/moving from crates/table/src/entry_views.rt: its bodies, other contracts.
+// What stands at an entry cursor: key, value, number and type, and the refusal of asking for them. Parts of the image are handed
+// back as they are, uncopied; nowhere, and where a view is refused, the part is empty.
+ghost use lib.ListN.{length};
+ghost use Rattle.moving.specs.Nodes.{Numbered};
+ghost use Rattle.moving.specs.Answers.{PartsOnFit};
+use crate::entries::Parts;
+use crate::key_types::Tag;
+use crate::memtable_iter::CursorTest;
+use crate::memtable_iter::EntryCursor;
+use crate::memtable_iter::test_cursor;
+use crate::nodes::Frame;
+use crate::nodes::NodeRead;
+use crate::nodes::node_of;
+use crate::refusals::Refusal;
+
+// The parts of the node at a cursor.
+pub enum PartsOn {
+    Nowhere,
+    Node(Parts),
+    Refused(Refusal),
+}
+
+// The parts of a node; a byte at fault is damage.
+fn parts_of(s: &[u8], f: Frame, node: usize) -> PartsOn
+    requires { ⌜ Numbered (length (now s)) f node ⌝ }
+    ensures { λ r. ⌜ PartsOnFit (length (now (s .entry))) r ⌝ }
+{
+    let read = node_of(s, f, node);
+    match read {
+        NodeRead::Bad(_) => PartsOn::Refused(Refusal::Damaged),
+        NodeRead::Got(m) => {
+            let parts = m.parts;
+            PartsOn::Node(parts)
+        }
+    }
+}
+
+// The parts of the node at a cursor. Refusals 1, 10, 9.
+pub(crate) fn parts_on(s: &[u8], c: EntryCursor) -> PartsOn
+    ensures { λ r. ⌜ PartsOnFit (length (now (s .entry))) r ⌝ }
+{
+    let test = test_cursor(s, c);
+    match test {
+        CursorTest::Failed(q) => PartsOn::Refused(q),
+        CursorTest::Passed(f) => match c {
+            EntryCursor::Nowhere => PartsOn::Nowhere,
+            EntryCursor::On(node) => parts_of(s, f, node),
+        },
+    }
+}
+
+// The key at a cursor.
+pub fn entry_key(s: &[u8], c: EntryCursor) -> &[u8] {
+    let PartsOn::Node(p) = parts_on(s, c) else {
+        return &s[..0];
+    };
+    let keyed = p.keyed;
+    let at = keyed.key_at;
+    let end = at + keyed.key_len;
+    &s[at..end]
+}
+
+// The value at a cursor; a deletion's is empty.
+pub fn entry_value(s: &[u8], c: EntryCursor) -> &[u8] {
+    let PartsOn::Node(p) = parts_on(s, c) else {
+        return &s[..0];
+    };
+    let tag = p.keyed.tag;
+    if tag.kind() != Tag::VALUE {
+        return &s[..0];
+    }
+    let at = p.value_at;
+    let end = at + p.value_len;
+    &s[at..end]
+}
+
+// The number at a cursor; nowhere, and where it is refused, 0.
+pub fn entry_number(s: &[u8], c: EntryCursor) -> u64 {
+    let PartsOn::Node(p) = parts_on(s, c) else {
+        return 0;
+    };
+    let tag = p.keyed.tag;
+    tag.number()
+}
+
+// The type at a cursor; nowhere, and where it is refused, 0.
+pub fn entry_kind(s: &[u8], c: EntryCursor) -> u8 {
+    let PartsOn::Node(p) = parts_on(s, c) else {
+        return 0;
+    };
+    let tag = p.keyed.tag;
+    tag.kind()
+}
+
+// The number of the refusal that the four views get at a cursor, or 0.
+pub fn entry_refusal(s: &[u8], c: EntryCursor) -> u32 {
+    let parts = parts_on(s, c);
+    match parts {
+        PartsOn::Nowhere => 0,
+        PartsOn::Node(_) => 0,
+        PartsOn::Refused(q) => q.number(),
+    }
+}
+
+// The value of a found node, a part of the image itself. Refusals 1, 10, 9.
+pub fn value(s: &[u8], node: usize) -> &[u8] {
+    entry_value(s, EntryCursor::On(node))
+}
+
+// The number of the refusal that asking for a node's value gets, or 0.
+pub fn value_refusal(s: &[u8], node: usize) -> u32 {
+    entry_refusal(s, EntryCursor::On(node))
+}

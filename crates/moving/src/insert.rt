@@ -1,0 +1,168 @@
+// Made by tools/moving from crates/table/src/insert.rt: its bodies, other contracts.
+// Writing to an image: a fresh header, a node in the free part, links. What is written is decided before the first byte is.
+ghost use mathlib.Core.Path.{_≡_};
+ghost use Prim.Native.Nat.{_≤_};
+ghost use lib.ListN.{length};
+ghost use Rattle.moving.specs.Search.{PlacesInside};
+ghost use Rattle.moving.specs.Insert.{NodeWritable, Sized, RoomIs, Placeable};
+use crate::entries::entry_size;
+use crate::entries::put_entry;
+use crate::nodes::Frame;
+use crate::nodes::MAX_NODES;
+use crate::skipmap::OnEqual;
+use crate::skipmap::Spot;
+use crate::skipmap::search;
+use crate::words::get_word;
+use crate::words::put_bytes;
+use crate::words::put_word;
+
+// Where the links of a node stand, counted from its start.
+const LINK_PLACES: [usize; 12] = [8, 12, 16, 20, 24, 28, 32, 36, 40, 44, 48, 52];
+
+// Writes the header of an empty table: its length, no node, the first free byte behind the header, twelve levels and no links.
+pub(crate) fn fresh_header(s: &mut [u8])
+    requires { ⌜ 64 ≤ length (now s) ⌝ }
+    ensures { λ _. ⌜ length (now (s .exit)) ≡ length (now (s .entry)) ⌝ }
+{
+    let len = s.len();
+    put_word(s, 0, len);
+    put_word(s, 4, 0);
+    put_word(s, 8, 64);
+    put_word(s, 12, 12);
+    let links = [0u8; 48];
+    put_bytes(s, 16, &links);
+}
+
+// Writes a word for each level below the height, each at its place.
+pub(crate) fn put_words(s: &mut [u8], places: &[usize; 12], values: &[usize; 12], height: usize)
+    requires { ⌜ (height ≤ 12) × PlacesInside (length (now s)) height (now places) ⌝ }
+    ensures { λ _. ⌜ length (now (s .exit)) ≡ length (now (s .entry)) ⌝ }
+{
+    let mut l = 0;
+    while l < height {
+        put_word(s, places[l], values[l]);
+        l += 1;
+    }
+}
+
+// Writes a node to the front of the free part: height, length of its entry, links, entry.
+pub(crate) fn put_node(
+    free: &mut [u8],
+    height: usize,
+    links: &[usize; 12],
+    key: &[u8],
+    number: u64,
+    kind: u8,
+    value: &[u8],
+)
+    requires { ⌜ NodeWritable (length (now free)) height (length (now key)) (length (now value)) ⌝ }
+    ensures { λ _. ⌜ length (now (free .exit)) ≡ length (now (free .entry)) ⌝ }
+{
+    let size = entry_size(key.len(), value.len());
+    put_word(free, 0, height);
+    put_word(free, 4, size);
+    let places = LINK_PLACES;
+    put_words(free, &places, links, height);
+    put_entry(free, 8 + 4 * height, key, number, kind, value);
+}
+
+// What the links at these places hold, at each level below the height.
+pub(crate) fn read_links(s: &[u8], places: [usize; 12], height: usize) -> [usize; 12]
+    requires { ⌜ (height ≤ 12) × PlacesInside (length (now s)) 12 places ⌝ }
+{
+    let mut links = [0usize; 12];
+    let mut l = 0;
+    while l < height {
+        let place = places[l];
+        links[l] = get_word(s, place);
+        l += 1;
+    }
+    links
+}
+
+// Puts an entry in where a search ended: the first free byte, the node there, its slot, the links to it from the lowest up, and the
+// count last, which is what makes it a node of the table. Answers the node's number.
+pub(crate) fn put_in(
+    s: &mut [u8],
+    f: Frame,
+    places: [usize; 12],
+    key: &[u8],
+    number: u64,
+    kind: u8,
+    value: &[u8],
+    height: usize,
+) -> usize
+    requires { ⌜ Placeable (length (now s)) f places (length (now key)) (length (now value)) height ⌝ }
+    ensures { λ _. ⌜ length (now (s .exit)) ≡ length (now (s .entry)) ⌝ }
+{
+    let links = read_links(s, places, height);
+    let used = f.free;
+    let node = f.count + 1;
+    let end = used + 8 + 4 * height + entry_size(key.len(), value.len());
+    let len = s.len();
+    put_word(s, 8, end);
+    put_node(&mut s[used..], height, &links, key, number, kind, value);
+    put_word(s, len - 4 * node, used);
+    let nodes = [node; 12];
+    put_words(s, &places, &nodes, height);
+    put_word(s, 4, node);
+    node
+}
+
+// Whether one more node of this height fits an image of this length, whose key and value have these lengths.
+pub(crate) fn has_room(
+    len: usize,
+    f: Frame,
+    key_len: usize,
+    value_len: usize,
+    height: usize,
+) -> bool
+    requires { ⌜ Sized len f «key_len» «value_len» height ⌝ }
+    ensures { λ r. ⌜ RoomIs len f «key_len» «value_len» height r ⌝ }
+{
+    if f.count >= MAX_NODES {
+        return false;
+    }
+    let need = 12 + 4 * height + entry_size(key_len, value_len);
+    need <= len - 4 * f.count - f.free
+}
+
+// What an insertion answers: the new node's number, or why nothing was written.
+pub enum Inserted {
+    At(usize),
+    Duplicate,
+    Full,
+    Damaged,
+}
+
+// Looks for the entry's key and number, and where they are not there puts the entry in. An equal entry is a duplicate, room or not.
+pub(crate) fn insert(
+    s: &mut [u8],
+    f: Frame,
+    key: &[u8],
+    number: u64,
+    kind: u8,
+    value: &[u8],
+    height: usize,
+) -> Inserted
+    requires { ⌜ Sized (length (now s)) f (length (now key)) (length (now value)) height ⌝ }
+    ensures { λ _. ⌜ length (now (s .exit)) ≡ length (now (s .entry)) ⌝ }
+{
+    let found = search(s, f, OnEqual::Stop, key, number);
+    let spot = found.spot;
+    match spot {
+        Spot::Bad(_) => Inserted::Damaged,
+        Spot::Hit { node: _, looks: _ } => Inserted::Duplicate,
+        Spot::Ends {
+            before: _,
+            after: _,
+            looks: _,
+        } => {
+            if !has_room(s.len(), f, key.len(), value.len(), height) {
+                return Inserted::Full;
+            }
+            let places = found.places;
+            Inserted::At(put_in(s, f, places, key, number, kind, value, height))
+        }
+    }
+}

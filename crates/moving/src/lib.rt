@@ -1,0 +1,22 @@
+// Made by tools/moving: table and cursor once more, in bounds, without overflow and with an end whatever each read of a lent byte
+// gives, so also when bytes change between any two reads.
+pub mod words; // words.rt: the u32 words of an image, and bytes written to it
+pub mod key_types; // key_types.rt: number, tag, lengths and order
+pub mod entries; // entries.rt: the bytes of an entry
+pub mod insert; // insert.rt: writing to an image
+pub mod nodes; // nodes.rt: header and nodes of an image
+pub mod skipmap; // skipmap.rt: the search
+pub mod refusals; // refusals.rt: why a call is refused
+pub mod memtable; // memtable.rt: the calls on one table
+pub mod memtable_iter; // memtable_iter.rt: the entry cursor
+pub mod entry_views; // entry_views.rt: what stands at an entry cursor
+pub mod entry_spans; // entry_spans.rt: where in the image that stands
+pub mod presence; // presence.rt: presence of an entry, value of a key
+pub mod questions; // questions.rt: what the layer above asks of one table
+pub mod check; // check.rt: whether an image is sound
+pub mod places; // places.rt: places in two tables
+pub mod merging_iter; // merging_iter.rt: what the two tables answer together
+pub mod walk; // walk.rt: from a cut on, the first key that has a row
+pub mod db_iter; // db_iter.rt: the moves of the visible cursor
+pub mod row_views; // row_views.rt: what stands at the visible cursor
+pub mod row_spans; // row_spans.rt: where in its image that stands

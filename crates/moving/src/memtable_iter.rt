@@ -1,0 +1,242 @@
+// Made by tools/moving from crates/table/src/memtable_iter.rt: its bodies, other contracts.
+// The entry cursor: over all entries of one table in their order, deletions included; and what stands at it.
+// A cursor is a node number, not a place in memory: additions never change what it shows. Nothing here writes.
+ghost use lib.ListN.{length};
+ghost use Rattle.moving.specs.Entries.{KeyInside};
+ghost use Rattle.moving.specs.Nodes.{Within, InTable, Numbered};
+ghost use Rattle.moving.specs.Answers.{TestFits};
+use crate::entries::Keyed;
+use crate::entries::MAX_KEY;
+use crate::entries::entry_less;
+use crate::entries::key_in;
+use crate::key_types::Number;
+use crate::nodes::Frame;
+use crate::nodes::FrameRead;
+use crate::nodes::HEAD_LINKS;
+use crate::nodes::NodeRead;
+use crate::nodes::node_of;
+use crate::nodes::read_frame;
+use crate::refusals::Refusal;
+use crate::skipmap::OnEqual;
+use crate::skipmap::Spot;
+use crate::skipmap::search;
+use crate::words::get_word;
+
+// Nowhere, or on a node.
+pub enum EntryCursor {
+    Nowhere,
+    On(usize),
+}
+
+// Where a move leads; a refused move hands back the cursor that it was handed.
+pub enum EntryMoved {
+    To(EntryCursor),
+    Refused(Refusal, EntryCursor),
+}
+
+// Whether a cursor may be used on a table, with the frame that was read, or why not.
+pub enum CursorTest {
+    Passed(Frame),
+    Failed(Refusal),
+}
+
+// The header is tested, then the cursor: it names a node of the table, or none.
+pub fn test_cursor(s: &[u8], c: EntryCursor) -> CursorTest
+    ensures { λ r. ⌜ TestFits (length (now (s .entry))) c r ⌝ }
+{
+    let FrameRead::Good(f) = read_frame(s) else {
+        return CursorTest::Failed(Refusal::BadImage);
+    };
+    let EntryCursor::On(node) = c else {
+        return CursorTest::Passed(f);
+    };
+    if node < 1 {
+        return CursorTest::Failed(Refusal::NoNode);
+    }
+    if node > f.count {
+        return CursorTest::Failed(Refusal::NoNode);
+    }
+    CursorTest::Passed(f)
+}
+
+// Where a cursor may go, or that damage was met.
+pub enum EntryFound {
+    At(EntryCursor),
+    Damaged,
+}
+
+// The end of a move: nowhere, or on a node that can be read whole.
+fn land(s: &[u8], f: Frame, node: usize) -> EntryFound
+    requires { ⌜ InTable (length (now s)) f node ⌝ }
+{
+    if node < 1 {
+        return EntryFound::At(EntryCursor::Nowhere);
+    }
+    let read = node_of(s, f, node);
+    match read {
+        NodeRead::Bad(_) => EntryFound::Damaged,
+        NodeRead::Got(_) => EntryFound::At(EntryCursor::On(node)),
+    }
+}
+
+// The same behind an entry: a node that does not come after it is damage.
+fn land_after(s: &[u8], f: Frame, from: Keyed, node: usize) -> EntryFound
+    requires { ⌜ InTable (length (now s)) f node × KeyInside (length (now s)) from ⌝ }
+{
+    if node < 1 {
+        return EntryFound::At(EntryCursor::Nowhere);
+    }
+    let read = node_of(s, f, node);
+    match read {
+        NodeRead::Bad(_) => EntryFound::Damaged,
+        NodeRead::Got(m) => {
+            let keyed = m.parts.keyed;
+            if !entry_less(s, from, keyed) {
+                return EntryFound::Damaged;
+            }
+            EntryFound::At(EntryCursor::On(node))
+        }
+    }
+}
+
+// The first entry that a search does not pass.
+pub(crate) fn first_not_passed(
+    s: &[u8],
+    f: Frame,
+    mode: OnEqual,
+    key: &[u8],
+    number: u64,
+) -> EntryFound
+    requires { ⌜ Within (length (now s)) f ⌝ }
+{
+    let found = search(s, f, mode, key, number);
+    let spot = found.spot;
+    match spot {
+        Spot::Bad(_) => EntryFound::Damaged,
+        Spot::Hit { node, looks: _ } => land(s, f, node),
+        Spot::Ends {
+            before: _,
+            after,
+            looks: _,
+        } => land(s, f, after),
+    }
+}
+
+// The last entry before a key and a number.
+pub(crate) fn last_before(s: &[u8], f: Frame, key: &[u8], number: u64) -> EntryFound
+    requires { ⌜ Within (length (now s)) f ⌝ }
+{
+    let found = search(s, f, OnEqual::GoDown, key, number);
+    let spot = found.spot;
+    match spot {
+        Spot::Bad(_) => EntryFound::Damaged,
+        Spot::Hit { node: _, looks: _ } => EntryFound::At(EntryCursor::Nowhere),
+        Spot::Ends {
+            before,
+            after: _,
+            looks: _,
+        } => land(s, f, before),
+    }
+}
+
+// The first entry of all: where the head's lowest link leads.
+pub(crate) fn first_entry(s: &[u8], f: Frame) -> EntryFound
+    requires { ⌜ Within (length (now s)) f ⌝ }
+{
+    let first = get_word(s, HEAD_LINKS);
+    if first > f.count {
+        return EntryFound::Damaged;
+    }
+    land(s, f, first)
+}
+
+// The entry after that of a node: where its lowest link leads.
+fn entry_after(s: &[u8], f: Frame, node: usize) -> EntryFound
+    requires { ⌜ Numbered (length (now s)) f node ⌝ }
+{
+    let read = node_of(s, f, node);
+    match read {
+        NodeRead::Bad(_) => EntryFound::Damaged,
+        NodeRead::Got(m) => {
+            let after = get_word(s, m.start + 8);
+            if after > f.count {
+                return EntryFound::Damaged;
+            }
+            let keyed = m.parts.keyed;
+            land_after(s, f, keyed, after)
+        }
+    }
+}
+
+// The entry before that of a node.
+fn entry_before(s: &[u8], f: Frame, node: usize) -> EntryFound
+    requires { ⌜ Numbered (length (now s)) f node ⌝ }
+{
+    let read = node_of(s, f, node);
+    match read {
+        NodeRead::Bad(_) => EntryFound::Damaged,
+        NodeRead::Got(m) => {
+            let keyed = m.parts.keyed;
+            let tag = keyed.tag;
+            last_before(s, f, key_in(s, keyed), tag.number())
+        }
+    }
+}
+
+// What a move answers: where it leads, or damage with the cursor as it was handed.
+fn end_move(found: EntryFound, c: EntryCursor) -> EntryMoved {
+    match found {
+        EntryFound::At(d) => EntryMoved::To(d),
+        EntryFound::Damaged => EntryMoved::Refused(Refusal::Damaged, c),
+    }
+}
+
+// The first entry. Refusals 1, 10, 9.
+pub fn entry_first(s: &[u8], c: EntryCursor) -> EntryMoved {
+    let test = test_cursor(s, c);
+    match test {
+        CursorTest::Failed(q) => EntryMoved::Refused(q, c),
+        CursorTest::Passed(f) => end_move(first_entry(s, f), c),
+    }
+}
+
+// The first entry at or after a key and a number in the order. Refusals 1, 10, 3, 4, 9.
+pub fn entry_seek(s: &[u8], c: EntryCursor, key: &[u8], number: u64) -> EntryMoved {
+    let test = test_cursor(s, c);
+    match test {
+        CursorTest::Failed(q) => EntryMoved::Refused(q, c),
+        CursorTest::Passed(f) => {
+            if !Number::fits(number) {
+                return EntryMoved::Refused(Refusal::BadNumber, c);
+            }
+            if key.len() > MAX_KEY {
+                return EntryMoved::Refused(Refusal::LongKey, c);
+            }
+            end_move(first_not_passed(s, f, OnEqual::Stop, key, number), c)
+        }
+    }
+}
+
+// The next entry; from nowhere the first, from the last nowhere. Refusals 1, 10, 9.
+pub fn entry_next(s: &[u8], c: EntryCursor) -> EntryMoved {
+    let test = test_cursor(s, c);
+    match test {
+        CursorTest::Failed(q) => EntryMoved::Refused(q, c),
+        CursorTest::Passed(f) => match c {
+            EntryCursor::Nowhere => end_move(first_entry(s, f), c),
+            EntryCursor::On(node) => end_move(entry_after(s, f, node), c),
+        },
+    }
+}
+
+// The entry before; from nowhere and from the first nowhere. Refusals 1, 10, 9.
+pub fn entry_prev(s: &[u8], c: EntryCursor) -> EntryMoved {
+    let test = test_cursor(s, c);
+    match test {
+        CursorTest::Failed(q) => EntryMoved::Refused(q, c),
+        CursorTest::Passed(f) => match c {
+            EntryCursor::Nowhere => EntryMoved::To(EntryCursor::Nowhere),
+            EntryCursor::On(node) => end_move(entry_before(s, f, node), c),
+        },
+    }
+}

@@ -1,0 +1,83 @@
+// Made by tools/moving from crates/table/src/presence.rt: its bodies, other contracts.
+// Presence of an entry, and the value of a key: two questions that end in one node.
+ghost use Prim.Native.Nat.{_≤_};
+ghost use lib.ListN.{length};
+ghost use Rattle.moving.specs.Nodes.{Numbered};
+ghost use Rattle.moving.specs.Answers.{PresenceFits};
+use crate::entries::MAX_KEY;
+use crate::entry_views::value;
+use crate::key_types::Number;
+use crate::key_types::Tag;
+use crate::memtable::Lookup;
+use crate::memtable::get;
+use crate::nodes::Frame;
+use crate::nodes::FrameRead;
+use crate::nodes::NodeRead;
+use crate::nodes::node_of;
+use crate::nodes::read_frame;
+use crate::refusals::Refusal;
+use crate::skipmap::OnEqual;
+use crate::skipmap::Spot;
+use crate::skipmap::search;
+
+// Whether an entry is held, with the looks that it took to tell.
+pub enum Presence {
+    Held { looks: usize },
+    NotHeld { looks: usize },
+    Refused(Refusal),
+}
+
+// Whether the node at which a search stopped has this type too.
+fn held_at(s: &[u8], f: Frame, node: usize, kind: u8, looks: usize) -> Presence
+    requires { ⌜ Numbered (length (now s)) f node × (looks ≤ 4108) ⌝ }
+    ensures { λ r. ⌜ PresenceFits 4108 r ⌝ }
+{
+    let read = node_of(s, f, node);
+    match read {
+        NodeRead::Bad(_) => Presence::Refused(Refusal::Damaged),
+        NodeRead::Got(m) => {
+            let tag = m.parts.keyed.tag;
+            if tag.kind() != kind {
+                return Presence::NotHeld { looks };
+            }
+            Presence::Held { looks }
+        }
+    }
+}
+
+// Whether an entry of this key, number and type is held. Refusals 1, 2, 3, 4, 9.
+pub fn contains(s: &[u8], key: &[u8], number: u64, kind: u8) -> Presence
+    ensures { λ r. ⌜ PresenceFits 4108 r ⌝ }
+{
+    let FrameRead::Good(f) = read_frame(s) else {
+        return Presence::Refused(Refusal::BadImage);
+    };
+    if !Tag::known(kind) {
+        return Presence::Refused(Refusal::BadKind);
+    }
+    if !Number::fits(number) {
+        return Presence::Refused(Refusal::BadNumber);
+    }
+    if key.len() > MAX_KEY {
+        return Presence::Refused(Refusal::LongKey);
+    }
+    let found = search(s, f, OnEqual::Stop, key, number);
+    let spot = found.spot;
+    match spot {
+        Spot::Bad(_) => Presence::Refused(Refusal::Damaged),
+        Spot::Hit { node, looks } => held_at(s, f, node, kind, looks),
+        Spot::Ends {
+            before: _,
+            after: _,
+            looks,
+        } => Presence::NotHeld { looks },
+    }
+}
+
+// The value of a key at a snapshot, a part of the image itself; empty where the key has no row, or the lookup is refused.
+pub fn get_value<'a>(s: &'a [u8], key: &[u8], snapshot: u64) -> &'a [u8] {
+    let Lookup::Found { node, looks: _ } = get(s, key, snapshot) else {
+        return &s[..0];
+    };
+    value(s, node)
+}

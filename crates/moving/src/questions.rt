@@ -1,0 +1,134 @@
+// Made by tools/moving from crates/table/src/questions.rt: its bodies, other contracts.
+// What the layer above asks of one table: how many nodes it has, the nearest key behind a cut, the newest entry of a key, and the
+// order of keys.
+// None of it asks anything of its caller: a bad header is damage, like any other fault that is met. Nothing here writes.
+ghost use Prim.Native.Nat.{_≤_};
+use crate::key_types::Number;
+use crate::key_types::Ordering;
+use crate::key_types::compare_keys;
+use crate::memtable::Said;
+use crate::memtable::said_at;
+use crate::memtable_iter::EntryCursor;
+use crate::memtable_iter::EntryFound;
+use crate::memtable_iter::first_entry;
+use crate::memtable_iter::first_not_passed;
+use crate::memtable_iter::last_before;
+use crate::nodes::FrameRead;
+use crate::nodes::read_frame;
+use crate::skipmap::OnEqual;
+use crate::skipmap::Spot;
+use crate::skipmap::search;
+
+// A cut at a key: upward every key, the keys from it on or those above it; downward the keys below it.
+pub enum Cut {
+    All,
+    From,
+    Above,
+    Below,
+}
+
+// The cut just past a key, on the same way.
+pub fn past(cut: Cut) -> Cut {
+    match cut {
+        Cut::All => Cut::Above,
+        Cut::From => Cut::Above,
+        Cut::Above => Cut::Above,
+        Cut::Below => Cut::Below,
+    }
+}
+
+// How many nodes the table has; none if its header does not hold.
+pub fn population(s: &[u8]) -> usize
+    ensures { λ r. ⌜ r ≤ 4096 ⌝ }
+{
+    match read_frame(s) {
+        FrameRead::Good(f) => f.count,
+        FrameRead::Bad => 0,
+    }
+}
+
+// Whether the key a is less than the key b.
+pub fn less(a: &[u8], b: &[u8]) -> bool {
+    match compare_keys(a, b) {
+        Ordering::Less => true,
+        Ordering::Equal => false,
+        Ordering::Greater => false,
+    }
+}
+
+// Whether the key a comes before the key b on the way of a cut.
+pub fn before(cut: Cut, a: &[u8], b: &[u8]) -> bool {
+    match cut {
+        Cut::All => less(a, b),
+        Cut::From => less(a, b),
+        Cut::Above => less(a, b),
+        Cut::Below => less(b, a),
+    }
+}
+
+// The node that answers, or that there is none.
+pub enum Hit {
+    At(usize),
+    Nothing,
+    Damaged,
+}
+
+// A cursor as an answer.
+fn hit_at(found: EntryFound) -> Hit {
+    let EntryFound::At(c) = found else {
+        return Hit::Damaged;
+    };
+    match c {
+        EntryCursor::Nowhere => Hit::Nothing,
+        EntryCursor::On(node) => Hit::At(node),
+    }
+}
+
+// A node with the key that comes next behind a cut. It can be read whole.
+pub fn near(s: &[u8], cut: Cut, key: &[u8]) -> Hit {
+    let FrameRead::Good(f) = read_frame(s) else {
+        return Hit::Damaged;
+    };
+    match cut {
+        Cut::All => hit_at(first_entry(s, f)),
+        Cut::From => hit_at(first_not_passed(s, f, OnEqual::Stop, key, Number::MAX)),
+        Cut::Above => hit_at(first_not_passed(s, f, OnEqual::Pass, key, 0)),
+        Cut::Below => hit_at(last_before(s, f, key, Number::MAX)),
+    }
+}
+
+// The newest entry of a key: the node of a value, the node of a deletion, or that there is none.
+pub enum NewestAt {
+    Value(usize),
+    Deletion(usize),
+    Absent,
+    Damaged,
+}
+
+// What a node says of a key, with the node.
+fn with_node(said: Said, node: usize) -> NewestAt {
+    match said {
+        Said::Value => NewestAt::Value(node),
+        Said::Deletion => NewestAt::Deletion(node),
+        Said::Absent => NewestAt::Absent,
+        Said::Damaged => NewestAt::Damaged,
+    }
+}
+
+// The newest entry of a key up to a number.
+pub fn newest(s: &[u8], key: &[u8], number: u64) -> NewestAt {
+    let FrameRead::Good(f) = read_frame(s) else {
+        return NewestAt::Damaged;
+    };
+    let found = search(s, f, OnEqual::Stop, key, number);
+    let spot = found.spot;
+    match spot {
+        Spot::Bad(_) => NewestAt::Damaged,
+        Spot::Hit { node, looks: _ } => with_node(said_at(s, f, key, node), node),
+        Spot::Ends {
+            before: _,
+            after,
+            looks: _,
+        } => with_node(said_at(s, f, key, after), after),
+    }
+}
