@@ -257,7 +257,7 @@ static void damage(uint8_t *f, uint8_t *g, size_t n)
     LOOKUP(bavo_get(g, n, B("c"), 1, 4), BAVO_DAMAGED, 0, 0, 0);
     PRESENCE(bavo_contains(g, n, B("c"), 1, 0, 1), BAVO_DAMAGED, 0, 0);
     ADDED(add(g, n, "d", 5, BAVO_KIND_VALUE, ""), BAVO_DAMAGED, 0);
-    ENTRY(bavo_entry_next(g, n, on(1)), BAVO_DONE, BAVO_ON, 1);
+    ENTRY(bavo_entry_next(g, n, on(1)), BAVO_DAMAGED, BAVO_ON, 1);
     MOVED(bavo_seek(f, n, g, n, 2, in(2, 3), B("b"), 1), BAVO_DAMAGED, 2, 3);
     g[78] = 2;
     VIEW(bavo_entry_key(g, n, on(1)), BAVO_DAMAGED, 0, 0);

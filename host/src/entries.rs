@@ -1,6 +1,7 @@
 use crate::raw;
 use crate::refusal::{unless_refused, Refusal};
 use crate::table::Kind;
+use std::iter::FusedIterator;
 
 /// An entry of a table.
 #[derive(Clone, Copy, Debug, PartialEq, Eq)]
@@ -15,7 +16,8 @@ pub struct Entry<'a> {
     pub value: &'a [u8],
 }
 
-/// A cursor over all entries of one table, in their order, deletions included. It is nowhere, or on an entry.
+/// A cursor over all entries of one table, in their order, deletions included. It is nowhere, or on an entry. A scan ends, whatever
+/// the bytes: next leads to a later entry of the order, prev to an earlier one, or nowhere, or is refused.
 ///
 /// ```
 /// use bavolinesk::{Kind, Table};
@@ -104,7 +106,7 @@ impl<'a> EntryCursor<'a> {
     }
 }
 
-/// The entries of a table in their order; ends after a refusal.
+/// The entries of a table in their order. A scan ends, whatever the bytes: a refusal is given once, and after it nothing.
 #[derive(Clone, Debug)]
 pub struct Entries<'a> {
     cursor: EntryCursor<'a>,
@@ -129,3 +131,5 @@ impl<'a> Iterator for Entries<'a> {
         entry.transpose()
     }
 }
+
+impl FusedIterator for Entries<'_> {}

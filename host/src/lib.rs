@@ -27,8 +27,9 @@
 #![warn(missing_docs)]
 
 mod entries;
+#[doc(hidden)]
 #[allow(missing_docs)]
-mod ffi;
+pub mod ffi;
 mod refusal;
 mod snapshot;
 mod table;

@@ -1,6 +1,7 @@
 use crate::raw;
 use crate::refusal::{unless_refused, Refusal};
 use crate::table::Table;
+use std::iter::FusedIterator;
 
 // A fresh image of 64 bytes, which stands in for the second table where there is none.
 static NO_TABLE: [u8; 64] = {
@@ -148,7 +149,8 @@ pub struct Row<'a> {
 }
 
 /// A cursor over the rows of a snapshot. It is nowhere, or on a row; every move answers whether it is on a row now, and a refused
-/// move leaves it where it was.
+/// move leaves it where it was. A scan ends, whatever the bytes: next leads to a greater key, prev to a smaller one, or nowhere, or
+/// is refused.
 #[derive(Clone, Copy, Debug)]
 pub struct Cursor<'a> {
     snapshot: Snapshot<'a>,
@@ -188,12 +190,13 @@ impl<'a> Cursor<'a> {
     }
 
     /// To the row with the greatest key. The library has no such move: this one goes on by [`Cursor::next`] from where the cursor
-    /// is, so it takes as many moves as there are rows above.
+    /// is, so it takes as many moves as there are rows above. It returns, whatever the bytes: each `next` leads to a greater key.
     pub fn last(&mut self) -> Result<bool, Refusal> {
-        let mut ahead = *self;
+        let (mut ahead, mut last) = (*self, self.at);
         while ahead.next()? {
-            self.at = ahead.at;
+            last = ahead.at;
         }
+        self.at = last;
         Ok(self.is_on())
     }
 
@@ -235,7 +238,7 @@ enum Start {
 
 type Move<'a> = fn(&mut Cursor<'a>) -> Result<bool, Refusal>;
 
-/// The rows of a snapshot, one way; ends after a refusal.
+/// The rows of a snapshot, one way. A scan ends, whatever the bytes: a refusal is given once, and after it nothing.
 #[derive(Clone, Debug)]
 pub struct Rows<'a> {
     cursor: Cursor<'a>,
@@ -281,3 +284,5 @@ impl<'a> Iterator for Rows<'a> {
         row.transpose()
     }
 }
+
+impl FusedIterator for Rows<'_> {}

@@ -1,6 +1,7 @@
 //! Benchmarks: the same inputs for every contestant, in one run, on one pinned core; medians and ratios as a table.
 
 use crate::args::Args;
+use crate::clocks::processor_time;
 use crate::rng::Rng;
 use std::collections::BTreeMap;
 use std::process::Command;
@@ -54,26 +55,6 @@ pub struct Outcome {
     pub took: Duration,
     pub operations: u64,
     pub sum: u64,
-}
-
-#[repr(C)]
-struct Timespec {
-    seconds: i64,
-    nanos: i64,
-}
-
-extern "C" {
-    fn clock_gettime(clock: i32, time: *mut Timespec) -> i32;
-}
-
-const THREAD_CPU_TIME: i32 = 3;
-
-// The processor time that this thread has had: what others run on the core meanwhile does not count.
-fn processor_time() -> Duration {
-    let mut time = Timespec { seconds: 0, nanos: 0 };
-    // SAFETY: the call writes the one struct that it is handed, which is C's timespec on 64-bit Linux.
-    unsafe { clock_gettime(THREAD_CPU_TIME, &mut time) };
-    Duration::new(time.seconds as u64, time.nanos as u32)
 }
 
 /// Times a closure that answers how many operations it did and a sum over its answers.

@@ -8,6 +8,8 @@ use runs::harm::harm;
 use runs::model::{Entry, Model};
 use runs::ops::{Counts, Op};
 use runs::rng::Rng;
+use runs::scan_images::Pair;
+use runs::scans::{Counts as Scans, Scanner};
 use runs::script::{run, shrink};
 
 #[test]
@@ -84,4 +86,19 @@ fn damaged_images_keep_the_calls_in_bounds() {
 fn a_script_that_holds_is_not_cut_down() {
     let (ops, words) = shrink(vec![Op::Check(0)]);
     assert_eq!((ops.len(), words.as_str()), (1, ""));
+}
+
+#[test]
+fn scans_of_damaged_images_end() {
+    let (mut counts, mut rng) = (Scans::default(), Rng::new(7));
+    for case in 0..2_000 {
+        let mut pair = Pair::draw(&mut rng);
+        if case % 8 != 0 {
+            pair.damage(&mut rng);
+        }
+        let [one, two] = &pair.bytes;
+        let scanned = Scanner::new([one, two], 3, &mut counts).all(&mut rng);
+        assert_eq!(scanned, Ok(()), "damage: {:?}", pair.patches);
+    }
+    assert!(counts.ended_refused > 0 && counts.ended_nowhere > 0 && counts.unsound_pairs > 0);
 }

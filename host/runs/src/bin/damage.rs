@@ -1,17 +1,22 @@
 // Calls on damaged images.
-//   damage [--seed N|clock] [--calls N] [--exact] [--no-full-size]
-// --exact hands every call copies of its own, of exact length: for valgrind.
-use bavolinesk::{height_for, raw};
+//   damage [--seed N|clock] [--calls N] [--scans N] [--count-wrong-scans] [--exact] [--no-full-size]
+// --exact hands every call copies of its own, of exact length: for valgrind. --scans says how many pairs of small images are damaged
+// and scanned to their end, besides those that get calls; with --count-wrong-scans a scan that goes wrong does not end the run.
+use bavolinesk::{height_for, raw, MAX_NUMBER};
 use runs::args::Args;
 use runs::checker::header;
 use runs::damage::{Caller, Counts, Images};
 use runs::gen::Shape;
 use runs::harm::harm;
 use runs::rng::Rng;
-use std::sync::atomic::{AtomicU64, Ordering};
+use runs::scan_images::Pair;
+use runs::scans::{Counts as Scans, Scanner};
+use std::fmt::Debug;
+use std::sync::atomic::{AtomicBool, AtomicU64, Ordering};
 use std::time::{Duration, Instant};
 
 static CASE: AtomicU64 = AtomicU64::new(0);
+static COUNTING: AtomicBool = AtomicBool::new(false);
 
 // Says which case does not end, should there be one.
 fn watch(seed: u64) {
@@ -41,7 +46,44 @@ fn grow(rng: &mut Rng, shape: &Shape, length: usize, additions: usize) -> Box<[u
     image
 }
 
-fn one(rng: &mut Rng, exact: bool, counts: &mut Counts) {
+// Scans two images to their end; the first scan that goes wrong is printed with their bytes. Answers whether the run may go on.
+fn scan(images: [&[u8]; 2], rng: &mut Rng, scans: &mut Scans, damage: &dyn Debug) -> bool {
+    let snapshot = *rng.pick(&[0, 2, 3, 5, 9, MAX_NUMBER]);
+    let Err(wrong) = Scanner::new(images, snapshot, scans).all(rng) else {
+        return true;
+    };
+    scans.wrong += 1;
+    if scans.wrong == 1 {
+        println!("{wrong}\ndamage: {damage:?}");
+        for image in images.iter().filter(|image| image.len() <= 1_000) {
+            println!("image of {} bytes: {image:02x?}", image.len());
+        }
+    }
+    COUNTING.load(Ordering::Relaxed)
+}
+
+// Pairs of small images, each damaged many times over.
+fn small_scans(seed: u64, wanted: u64) -> Scans {
+    let mut scans = Scans::default();
+    let mut rng = Rng::new(seed ^ 0x5ca5_5ca5);
+    let mut pair = Pair::draw(&mut rng);
+    while scans.pairs < wanted {
+        if scans.pairs % 64 == 0 {
+            CASE.fetch_add(1, Ordering::Relaxed);
+            pair = Pair::draw(&mut rng);
+        } else {
+            pair.damage(&mut rng);
+        }
+        let [one, two] = &pair.bytes;
+        if !scan([one, two], &mut rng, &mut scans, &pair.patches) {
+            println!("pair {} of the scans of seed {seed} fails", scans.pairs);
+            std::process::exit(1);
+        }
+    }
+    scans
+}
+
+fn one(rng: &mut Rng, exact: bool, counts: &mut Counts, scans: &mut Scans) {
     let shape = Shape::draw(rng, false);
     let mut bytes = [0, 1].map(|_| {
         let (length, additions) = match rng.below(12) {
@@ -55,6 +97,8 @@ fn one(rng: &mut Rng, exact: bool, counts: &mut Counts) {
     for _ in 0..times {
         harm(&mut bytes[rng.below(2)], rng);
     }
+    let right = scan([&bytes[0], &bytes[1]], rng, scans, &format_args!("{times} times"));
+    assert!(right, "a scan went wrong");
     calls(rng, bytes, exact, 25, counts);
 }
 
@@ -146,7 +190,7 @@ fn deserted(drawn: bool) {
     }
 }
 
-fn full_size(seed: u64, exact: bool, counts: &mut Counts) {
+fn full_size(seed: u64, exact: bool, counts: &mut Counts, scans: &mut Scans) {
     let largest = largest(seed, counts);
     for case in 0..100 {
         let mut rng = Rng::new(seed ^ (case << 40));
@@ -156,21 +200,24 @@ fn full_size(seed: u64, exact: bool, counts: &mut Counts) {
             harm(&mut bytes[0], &mut rng);
         }
         CASE.fetch_add(1, Ordering::Relaxed);
+        // A scan of so many nodes is long, so one case in ten gets them.
+        if case % 10 == 0 {
+            let right = scan([&bytes[0], &bytes[1]], &mut rng, scans, &format_args!("case {case}"));
+            assert!(right, "a scan of case {case} of seed {seed} went wrong");
+        }
         calls(&mut rng, bytes, exact, 100, counts);
     }
 }
 
-fn main() {
-    let args = Args::new();
-    let (seed, wanted, exact) = (args.seed(), args.number("--calls", 1_500_000), args.has("--exact"));
-    println!("seed {seed}");
-    watch(seed);
-    let mut counts = Counts::default();
-    let mut case = 0u64;
+// Pairs of images until so many calls are made on them; answers how many scans went wrong.
+fn called(seed: u64, wanted: u64, exact: bool) -> u64 {
+    let (mut counts, mut scans, mut case) = (Counts::default(), Scans::default(), 0u64);
     while counts.calls < wanted {
         CASE.store(case, Ordering::Relaxed);
         let mut rng = Rng::new(seed ^ case.wrapping_mul(0x9fb2_1c65_1e98_df25));
-        let before = std::panic::catch_unwind(std::panic::AssertUnwindSafe(|| one(&mut rng, exact, &mut counts)));
+        let before = std::panic::catch_unwind(std::panic::AssertUnwindSafe(|| {
+            one(&mut rng, exact, &mut counts, &mut scans)
+        }));
         if before.is_err() {
             println!("case {case} of seed {seed} fails");
             std::process::exit(1);
@@ -178,11 +225,30 @@ fn main() {
         case += 1;
     }
     println!("damage: {case} pairs of images: {counts:?}");
+    println!("their scans: {scans:?}");
+    scans.wrong
+}
+
+fn main() {
+    let args = Args::new();
+    let (seed, exact) = (args.seed(), args.has("--exact"));
+    println!("seed {seed}");
+    watch(seed);
+    COUNTING.store(args.has("--count-wrong-scans"), Ordering::Relaxed);
+    let small = small_scans(seed, args.number("--scans", 20_000));
+    println!("scans of small images: {small:?}");
+    let mut wrong = small.wrong + called(seed, args.number("--calls", 1_500_000), exact);
     if !args.has("--no-full-size") {
-        let mut counts = Counts::default();
-        full_size(seed, exact, &mut counts);
+        let (mut counts, mut scans) = (Counts::default(), Scans::default());
+        full_size(seed, exact, &mut counts, &mut scans);
         println!("full size: {counts:?}");
+        println!("their scans: {scans:?}");
+        wrong += scans.wrong;
         deserted(false);
         deserted(true);
+    }
+    if wrong > 0 {
+        println!("{wrong} pairs of images with a scan that went wrong");
+        std::process::exit(1);
     }
 }
