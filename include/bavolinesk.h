@@ -13,8 +13,17 @@
  * - Only bavo_fresh and bavo_add write, and only to the image that they are lent as uint8_t *.
  * - On a sound image (bavo_check says yes) no call gives BAVO_DAMAGED. On another one whose header holds, a call gives it or answers
  *   from what it read.
+ * - A scan ends, whatever the bytes: a move that does not end nowhere ends on an entry that can be read whole and lies strictly
+ *   onward of where it started, or it is refused. So of moves in one direction, over bytes that stay, no more than there are nodes
+ *   end on one before a move is refused or ends nowhere.
  * - There is no global state, no allocation and no lock: calls are reentrant. Several threads may read one image at the same
  *   time; while one writes to it, no other call may use it.
+ *
+ * Who may write during a call: answers are proved for bytes that hold still while the call lasts. If a device overwrites an image
+ * during a call, the call still ends, within the same bounds, and reads and writes nothing outside what it was lent (a view that it
+ * hands back lies in its image too); but its answer is worth nothing, and an addition may leave any bytes in the image that it was
+ * lent. For an answer that counts, copy the image to private memory and call on the copy, or hold the device off. This rests on
+ * compiled code that reads a byte no more often than the source does.
  *
  * What is asked of the caller:
  * - Every pointer is non-null and names as many bytes as its length says, for as long as the call lasts. An empty part is any
@@ -116,8 +125,10 @@ uint32_t bavo_fresh(uint8_t *image, size_t image_len);
 
 /* Adds an entry in a node of the given height, which the caller draws: 1 for most, each level more for about a quarter as many.
  * It takes 8 bytes, 4 for each level and the entry's bytes where the free part begins, one slot of 4 bytes where it ends, and
- * changes the node count, the first free byte and at most `height` links. Nothing else is touched, on a damaged image too. Nodes
- * keep their numbers and entries, so a stored cursor shows after it what it showed before.
+ * changes the node count, the first free byte and at most `height` links. Nothing else is touched, on a damaged image too. In a sound
+ * image nodes keep their numbers and entries, so a stored cursor shows after it what it showed before. It writes the first free byte
+ * first, then the node, its slot and the links to it from the lowest up, and the count last: before that word is written the table
+ * does not have the node.
  * Refusals: 1, 2, 3, 4, 5, 6, then 9 or 8, then 7. */
 bavo_added bavo_add(uint8_t *image, size_t image_len, const uint8_t *key, size_t key_len, uint64_t number, uint8_t kind,
     const uint8_t *value, size_t value_len, size_t height);
@@ -142,7 +153,9 @@ bavo_view bavo_value(const uint8_t *image, size_t image_len, size_t node);
 /* Its companion: the refusal that bavo_value gives to the same arguments, or 0. */
 uint32_t bavo_value_refusal(const uint8_t *image, size_t image_len, size_t node);
 
-/* ---- the entry cursor: over all entries of one table in their order, deletions included */
+/* ---- the entry cursor: over all entries of one table in their order, deletions included. On any bytes bavo_entry_next ends on an
+ *      entry after the cursor's in that order, bavo_entry_prev before it, bavo_entry_seek at or after the key and number, and
+ *      bavo_entry_refusal is 0 there; else the move is refused with 9, or ends nowhere. */
 
 /* Nowhere, or on a node: two numbers that the caller keeps. {0, 0} is where to begin; nowhere, `node` does not matter. */
 typedef struct {
@@ -232,7 +245,9 @@ bavo_pair_lookup bavo_pair_get(const uint8_t *first, size_t first_len, const uin
     const uint8_t *key, size_t key_len, uint64_t snapshot);
 
 /* The moves of the visible cursor go over the keys that have a row at the snapshot, over both tables together. Each answers from
- * the entries that are held at that call; the place that it leads to is the entry that gives the row. */
+ * the entries that are held at that call; the place that it leads to is the entry that gives the row. On any bytes they end on a
+ * value numbered up to the snapshot whose views are not refused, bavo_next above the cursor's key, bavo_prev below it, bavo_seek at
+ * or above the key that it was given; else they are refused with 9, or end nowhere. */
 
 /* To the least key with a row; nowhere if there is none. The cursor that is handed is tested, and else not used.
  * Refusals: 1 (first table, then second), 10, 3, 9. */
@@ -254,7 +269,7 @@ bavo_moved bavo_next(const uint8_t *first, size_t first_len, const uint8_t *seco
 bavo_moved bavo_prev(const uint8_t *first, size_t first_len, const uint8_t *second, size_t second_len, uint64_t snapshot,
     bavo_cursor at);
 
-/* The key of the node at a cursor. No snapshot is asked for: a stored cursor shows the same whatever is added.
+/* The key of the node at a cursor. No snapshot is asked for: in sound tables a stored cursor shows the same whatever is added.
  * Refusals: 1 (first table, then second), 10, 9. */
 bavo_row_view bavo_row_key(const uint8_t *first, size_t first_len, const uint8_t *second, size_t second_len, bavo_cursor at);
 
