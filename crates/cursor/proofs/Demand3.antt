@@ -54,7 +54,7 @@ saysOf (given l) = l .says
 saysOf (is.refused q) = one.absent
 
 learnt-rule : (xs k : List ℕ) (s : ℕ) (r : Lookup) → Sound xs → Gets xs k s r → s ≤ maxNumber → length k ≤ maxKey → learnt xs r ≡ learntOf (newest k s (held xs))
-learnt-rule xs k s r x g a b = let (l, e, t, _) = g .rule x a b in go r l e t
+learnt-rule xs k s r x g a b = let (l, e, t) = g .rule x a b in go r l e t
   where
     go : (r : Lookup) (l : one.Lookup) → lookupAs r ≡ given l → Tells xs k s (l .says) → learnt xs r ≡ learntOf (newest k s (held xs))
     go (lookup.Found i looks) l e t = let (n, q, v) = rw (← ap saysOf e) at t in rw (value-shown xs x i n, q, v)

@@ -145,7 +145,7 @@ sound-q0 : Sound q0
 sound-q0 = begun-sound q0 (freshly (replicate 130 0x11) (omega arith) (omega arith)) .0
 
 sound-q1 : Sound q1
-sound-q1 = adding-b′ .rule sound-q0 .0
+sound-q1 = adding-b′ .rule sound-q0 .0 .sound
 
 held-f1 : held f1 ≡ put a 1 x ∷ []
 held-f1 = filled-held (put a 1 x ∷ []) f1 (record { start = f0; begun = freshly (replicate 125 0xa5) (omega arith) (omega arith); additions = add-a })

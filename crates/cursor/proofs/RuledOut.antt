@@ -29,7 +29,7 @@ refuses-all q ys r = refused-given (r .exact ∙ sym (adding-a .exact))
 
 -- an addition that does nothing, of any entry at any height to any sound table
 pub adds-nothing : (xs : List ℕ) → Sound xs → (e : Entry) (h i : ℕ) → Adds xs e h (added.Node i) xs → ⊥
-adds-nothing xs s e h i r = let n = ap length (r .rule s .1) ∙ length-append (held xs) (e ∷ []) in omega (arith, n)
+adds-nothing xs s e h i r = let n = ap length (r .rule s .0 .held-more) ∙ length-append (held xs) (e ∷ []) in omega (arith, n)
 
 -- a cursor that always says 'no row': over a=x and b=y there is a first
 pub always-none : Moves first f1 g1 2 Nowhere (To Nowhere) → ⊥

@@ -22,6 +22,9 @@ use Rattle.cursor.specs.Walks.{Gives}
 use Rattle.cursor.specs.Moves.{asked, keyGiven, startKey, LeadsTo, RefusedWith, Moves}
 use Rattle.cursor.specs.Pairs.{PairSays, found, deleted, absent, PairLooked, pairAs, GetsPair}
 use Rattle.cursor.specs.Rows.{valueIn, ShowsKey, ShowsValue, Refuses}
+use Rattle.cursor.specs.RowSpans.{PartIn, rowSpanAs, View, RowSpans}
+use Rattle.cursor.specs.declared.row_spans.RowSpan.{RowSpan}
+use Rattle.cursor.specs.declared.row_spans.RowSpan.the-variants as span
 use Rattle.cursor.specs.declared.places.Side.{Side}
 use Rattle.cursor.specs.declared.places.Side.the-variants.{First, Second}
 use Rattle.cursor.specs.declared.places.Place.{Place}
@@ -109,3 +112,19 @@ value-one f g c v w a b = a .exact ∙ sym (b .exact)
 
 pub refusal-one : (f g : List ℕ) (c : Cursor) (m n : ℕ) → Refuses f g c m → Refuses f g c n → m ≡ n
 refusal-one f g c m n a b = a .exact ∙ sym (b .exact)
+
+-- ---- where the views stand: `row_key_span`, `row_value_span`
+
+spanFrom : Answer (Maybe PartIn) → RowSpan
+spanFrom (given none) = span.Nowhere
+spanFrom (given (some p)) = span.In (p .side) (p .span .at) (p .span .len)
+spanFrom (refused r) = span.Refused (refusalFrom r)
+
+pub span-one : (view : View) (f g : List ℕ) (c : Cursor) (r q : RowSpan) → RowSpans view f g c r → RowSpans view f g c q → r ≡ q
+unfolding spanFrom
+span-one view f g c r q a b = sym (back r) ∙ ap spanFrom (a .exact ∙ sym (b .exact)) ∙ back q
+  where
+    back : (r : RowSpan) → spanFrom (rowSpanAs r) ≡ r
+    back span.Nowhere = refl
+    back (span.In side o n) = refl
+    back (span.Refused q) = ap {B = RowSpan} span.Refused (refusal-back q)

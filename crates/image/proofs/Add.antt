@@ -4,13 +4,13 @@ use native.Mathlib.Omega.{arith}
 use mathlib.Core.Path.{_≡_, refl, sym, ap, _∙_}
 use mathlib.Core.Logic.{_⊎_, inl, inr, ⊎-elim}
 use mathlib.Core.List.{List, _++_, List·Memᴰ, List·Memᴰ·append-cases, Memᴰ·append-right}
-use mathlib.Core.Bool.{true, false, true≢false}
+use mathlib.Core.Bool.{Bool, true, false, true≢false}
 use lib.ListN.{length, getD}
 use lib.Dec.{ltb, leb}
 use borrow.Author.Tests.{ltb-true, leb-true, le-leb}
 use Rattle.rule.specs.Lists.{both, All}
 use Rattle.rule.specs.Order.{Ord, equal}
-use Rattle.rule.specs.Entries.{Entry}
+use Rattle.rule.specs.Entries.{Entry, Duplicates}
 use Rattle.rule.proofs.Lists.{both-true}
 use Rattle.rule.proofs.Order.{entries, equal-true}
 use Rattle.image.specs.Limits.{maxKey, maxValue, maxNumber, maxNodes, levels, headerSize}
@@ -22,14 +22,16 @@ use Rattle.image.specs.Sound.{Sound, Header, headerHolds}
 use Rattle.image.specs.Search.{toStop, turnBy, Found, hit, ends, searched}
 use Rattle.image.specs.Refusals.{badImage, badKind, badNumber, longKey, longValue, badHeight, noRoom, duplicate, damaged, refused, given, reading}
 use Rattle.image.specs.Add.{withEntry, Grown, hasRoom, placed, add}
+use Rattle.image.specs.Added.{HasDuplicate, Added, Outcome, held-already, no-room, accepted, HasLink, in-header, in-node, in-slot, in-link, Confined}
 use Rattle.image.proofs.Refusals.{refused-given, demand-given, demand-damaged, reading-given}
 use Rattle.image.proofs.Entries.{encode-bytes}
 use Rattle.image.proofs.Nodes.{links-node, lead-bounds}
 use Rattle.image.proofs.Probe.{probe}
 use Rattle.image.proofs.Sound.{header-sound, header-complete, everywhere}
-use Rattle.image.proofs.Search.{isOnward, isHalt, Good, searched-good, passTest, stopTest, stop-pass, stop-stop, Searched, search-sound}
+use Rattle.image.proofs.Search.{isOnward, isHalt, searched-good, passTest, stopTest, stop-pass, stop-stop, Searched, search-sound}
 use Rattle.image.proofs.Write.{written-length, written-kept, written-bytes}
-use Rattle.image.proofs.Grow.{Room, Added, entry-added}
+use Rattle.image.proofs.Held.{held-has, held-from}
+use Rattle.image.proofs.Grow.{Room, entry-added}
 
 -- arguments that pass every test before the search
 pub record Allowed (e : Entry) (h : ℕ) : Type 0 where
@@ -98,17 +100,13 @@ add-accepted xs e h g a =
 
 -- ---- on a sound image
 
--- node x has the key and the number of e
-abbrev pub Duplicates : List ℕ → Entry → ℕ → Type 0
-Duplicates xs e x = ((entryOf xs x) .key ≡ e .key) × ((entryOf xs x) .number ≡ e .number)
-
 module _ (xs : List ℕ) (s : Sound xs) (e : Entry) (h : ℕ) where
   -- the entry is there already, room or not
   pub record IsDuplicate : Type 0 where
     pub node : ℕ
     pub some : 1 ≤ node
     pub most : node ≤ count xs
-    pub same : Duplicates xs e node
+    pub same : Duplicates (entryOf xs node) e
     pub looks : ℕ
     pub found : searched xs toStop (e .key) (e .number) ≡ got (hit node looks)
 
@@ -119,8 +117,8 @@ module _ (xs : List ℕ) (s : Sound xs) (e : Entry) (h : ℕ) where
     pub looks : ℕ
     pub recorded : List ℕ
     pub found : searched xs toStop (e .key) (e .number) ≡ got (ends before after looks recorded)
-    pub nowhere : (x : ℕ) → 1 ≤ x → x ≤ count xs → Duplicates xs e x → ⊥
-    pub added : Room xs e h → Added xs e h recorded (withEntry xs e h recorded)
+    pub nowhere : (x : ℕ) → 1 ≤ x → x ≤ count xs → Duplicates (entryOf xs x) e → ⊥
+    pub added : Room xs e h → Added xs e h (withEntry xs e h recorded)
 
   pub search-decides : IsDuplicate ⊎ IsNew
   search-decides = go (search-sound xs s toStop (e .key) (e .number)) ((search-sound xs s toStop (e .key) (e .number)) .found) refl
@@ -131,13 +129,13 @@ module _ (xs : List ℕ) (s : Sound xs) (e : Entry) (h : ℕ) where
       n : ℕ
       n = e .number
 
-      equal-node : (x : ℕ) → stopTest xs toStop k n x ≡ true → Duplicates xs e x
+      equal-node : (x : ℕ) → stopTest xs toStop k n x ≡ true → Duplicates (entryOf xs x) e
       equal-node x f = let z = entries .eq ((entryOf xs x) .key, (entryOf xs x) .number) (k, n) (equal-true (probe (entryOf xs) k n x) (sym (stop-stop xs k n x) ∙ f)) in (ap (λ (t : List ℕ × ℕ). t .0) z, ap (λ (t : List ℕ × ℕ). t .1) z)
 
-      node-equal : (x : ℕ) → Duplicates xs e x → probe (entryOf xs) k n x ≡ equal
+      node-equal : (x : ℕ) → Duplicates (entryOf xs x) e → probe (entryOf xs) k n x ≡ equal
       node-equal x d = rw (d .0, d .1) (entries .same (k, n))
 
-      unequal : (pre post : List ℕ) → All (λ x. passTest xs toStop k n x ≡ true) pre → All (λ x. stopTest xs toStop k n x ≡ false) post → (x : ℕ) → List·Memᴰ x (pre ++ post) → Duplicates xs e x → ⊥
+      unequal : (pre post : List ℕ) → All (λ x. passTest xs toStop k n x ≡ true) pre → All (λ x. stopTest xs toStop k n x ≡ false) post → (x : ℕ) → List·Memᴰ x (pre ++ post) → Duplicates (entryOf xs x) e → ⊥
       unequal pre post p q x m d = ⊎-elim (λ i. true≢false (sym (p x i) ∙ ap (λ (o : Ord). isOnward (turnBy toStop o)) (node-equal x d)))
           (λ i. true≢false (ap (λ (o : Ord). isHalt (turnBy toStop o)) (sym (node-equal x d)) ∙ q x i)) (List·Memᴰ·append-cases pre m)
 
@@ -156,20 +154,34 @@ module _ (xs : List ℕ) (s : Sound xs) (e : Entry) (h : ℕ) where
       })
 
   -- what an accepted addition comes to
-  pub add-added : (g : Grown) → add xs e h ≡ given g → (prev : List ℕ) × (g .node ≡ suc (count xs)) × Added xs e h prev (g .image)
+  pub add-added : (g : Grown) → add xs e h ≡ given g → (g .node ≡ suc (count xs)) × Added xs e h (g .image)
   add-added g a = go (add-accepted xs e h g a) search-decides
     where
-      go : Accepted xs e h g → IsDuplicate ⊎ IsNew → (prev : List ℕ) × (g .node ≡ suc (count xs)) × Added xs e h prev (g .image)
+      go : Accepted xs e h g → IsDuplicate ⊎ IsNew → (g .node ≡ suc (count xs)) × Added xs e h (g .image)
       go c (inl d) = let (p, x, l, f) = c .found in absurd (let z : _≡_ {A = ℕ} 0 1 = cc (f, d .found) in omega arith)
-      go c (inr d) = let (p, x, l, f) = c .found in let q : c .recorded ≡ d .recorded = cc (f, d .found) in (d .recorded, c .node-is, rw (c .image-is, q) (d .added (c .room)))
+      go c (inr d) = let (p, x, l, f) = c .found in let q : c .recorded ≡ d .recorded = cc (f, d .found) in (c .node-is, rw (c .image-is, q) (d .added (c .room)))
 
-  -- a duplicate is refused in a full table too
-  pub add-duplicate : Allowed e h → (x : ℕ) → 1 ≤ x → x ≤ count xs → Duplicates xs e x → add xs e h ≡ refused duplicate
-  add-duplicate ok x p q d = go search-decides
+  -- a duplicate among the nodes is one among the entries held
+  node-duplicate : (x : ℕ) → 1 ≤ x → x ≤ count xs → Duplicates (entryOf xs x) e → HasDuplicate xs e
+  node-duplicate x p q d = (entryOf xs x, held-has xs (count xs) x p q, d)
+
+  duplicate-node : HasDuplicate xs e → (x : ℕ) × (1 ≤ x) × (x ≤ count xs) × Duplicates (entryOf xs x) e
+  duplicate-node (d, m, (k, n)) = let (x, p, q, f) = held-from xs (count xs) d m in (x, p, q, (ap (λ (c : Entry). c .key) f ∙ k, ap (λ (c : Entry). c .number) f ∙ n))
+
+  -- with legal arguments there are three outcomes
+  pub add-decides : Allowed e h → Outcome xs e h (add xs e h)
+  add-decides ok = go search-decides
     where
-      go : IsDuplicate ⊎ IsNew → add xs e h ≡ refused duplicate
-      go (inl c) = add-searches xs e h (s .header) ok ∙ ap (λ (r : Read Found). reading r (placed xs e h)) (c .found)
-      go (inr c) = absurd (c .nowhere x p q d)
+      after : (r : Found) → searched xs toStop (e .key) (e .number) ≡ got r → add xs e h ≡ placed xs e h r
+      after r f = add-searches xs e h (s .header) ok ∙ ap (λ (t : Read Found). reading t (placed xs e h)) f
+
+      new : (c : IsNew) → (HasDuplicate xs e → ⊥) → (b : Bool) → hasRoom xs e h ≡ b → Outcome xs e h (add xs e h)
+      new c n true r = rw (after (ends (c .before) (c .after) (c .looks) (c .recorded)) (c .found), r) (accepted n r (c .added (room-for xs e h ok r)))
+      new c n false r = rw (after (ends (c .before) (c .after) (c .looks) (c .recorded)) (c .found), r) (no-room n r)
+
+      go : IsDuplicate ⊎ IsNew → Outcome xs e h (add xs e h)
+      go (inl c) = rw (after (hit (c .node) (c .looks)) (c .found)) (held-already (node-duplicate (c .node) (c .some) (c .most) (c .same)))
+      go (inr c) = new c (λ d. let (x, p, q, f) = duplicate-node d in c .nowhere x p q f) (hasRoom xs e h) refl
 
   -- and damage is never met
   pub add-undamaged : add xs e h ≡ refused damaged → ⊥
@@ -197,29 +209,26 @@ module _ (xs : List ℕ) (s : Sound xs) (e : Entry) (h : ℕ) where
 -- ---- on any image
 
 -- a link that a search recorded stands behind the fixed part of the header and before the first free byte
-pub good-place : (xs : List ℕ) → headerSize ≤ free xs → (x l : ℕ) → l < levels → Good xs x l → (16 ≤ linkPlace xs x l) × (linkPlace xs x l + 4 ≤ free xs)
+pub good-place : (xs : List ℕ) → headerSize ≤ free xs → (x l : ℕ) → l < levels → HasLink xs x l → (16 ≤ linkPlace xs x l) × (linkPlace xs x l + 4 ≤ free xs)
 good-place xs low x l b (inl e) = (omega (arith, ap (linksAt xs) e), omega (arith, ap (linksAt xs) e))
 good-place xs low x l b (inr (p, q, (m, g, c))) = let d = lead-bounds xs (free xs) (slot xs x) m g in let f = links-node xs x p in (omega arith, omega arith)
 
 -- only n, F, the new node, its slot and at most h links change
-pub record Confined (xs : List ℕ) (e : Entry) (h : ℕ) (prev ys : List ℕ) : Type 0 where
-  pub length-same : length ys ≡ length xs
-  pub places : (l : ℕ) → l < h → (16 ≤ linkPlace xs (getD prev l 0) l) × (linkPlace xs (getD prev l 0) l + 4 ≤ free xs)
-  pub kept : (q : ℕ) → (4 ≤ q → q < 12 → ⊥) → (free xs ≤ q → q < free xs + sizeOf h e → ⊥) → (length xs - 4 * suc (count xs) ≤ q → q < length xs - 4 * count xs → ⊥)
-      → ((l : ℕ) → l < h → linkPlace xs (getD prev l 0) l ≤ q → q < linkPlace xs (getD prev l 0) l + 4 → ⊥) → getD ys q 0 ≡ getD xs q 0
-
-pub add-confined : (xs : List ℕ) (e : Entry) (h : ℕ) (g : Grown) → add xs e h ≡ given g → (prev : List ℕ) × Confined xs e h prev (g .image)
+pub add-confined : (xs : List ℕ) (e : Entry) (h : ℕ) (g : Grown) → add xs e h ≡ given g → Confined xs e h (g .image)
 add-confined xs e h g a = go (add-accepted xs e h g a)
   where
-    go : Accepted xs e h g → (prev : List ℕ) × Confined xs e h prev (g .image)
-    go c = let prev = c .recorded in let (p, x, l, f) = c .found in let room = c .room in let high = room .high in (
-      prev,
-      rw (c .image-is) (record {
-        length-same = written-length xs (count xs) (free xs) h e (λ l. linkOf xs (getD prev l 0) l) (λ l. linkPlace xs (getD prev l 0) l);
-        places = λ l k. good-place xs (c .header .low) (getD prev l 0) l (omega arith) (searched-good xs toStop (e .key) (e .number) (ends p x _ prev) f l (omega arith));
-        kept = λ q. written-kept xs (count xs) (free xs) h e (λ l. linkOf xs (getD prev l 0) l) (λ l. linkPlace xs (getD prev l 0) l) q (omega (arith, room .space));
-      }),
-    )
+    go : Accepted xs e h g → Confined xs e h (g .image)
+    go c = let (p, x, k, f) = c .found in let room = c .room in let high = room .high in rw (c .image-is) (record {
+      leader = λ l. getD (c .recorded) l 0;
+      leads = λ l k. searched-good xs toStop (e .key) (e .number) (ends p x _ (c .recorded)) f l (omega arith);
+      length-same = written-length xs (count xs) (free xs) h e _ _;
+      kept = λ q n. written-kept xs (count xs) (free xs) h e _ _ q (omega (arith, room .space)) (λ a b. n (in-header (a, b))) (λ a b. n (in-node (a, b)))
+          (λ a b. n (in-slot (a, omega (arith, room .space)))) (λ l k a b. n (in-link l k (a, b)));
+    })
+
+-- a refusal changes nothing
+pub unchanged-confined : (xs : List ℕ) (e : Entry) (h : ℕ) → Confined xs e h xs
+unchanged-confined xs e h = record { leader = λ l. 0; leads = λ l k. inl refl; length-same = refl; kept = λ q n. refl }
 
 -- bytes stay bytes
 pub add-bytes : (xs : List ℕ) (e : Entry) (h : ℕ) (g : Grown) → Bytes (e .key) → Bytes (e .value) → Bytes xs → add xs e h ≡ given g → Bytes (g .image)

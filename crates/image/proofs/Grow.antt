@@ -18,6 +18,7 @@ use Rattle.image.specs.Nodes.{count, free, slot, sizeOf, NodeIs, heightO
 use Rattle.image.specs.Chains.{tall}
 use Rattle.image.specs.Sound.{Sound, Header, placeOf, sizeAt, held, heldUpTo}
 use Rattle.image.specs.Add.{withEntry}
+use Rattle.image.specs.Added.{Added}
 use Rattle.image.proofs.Words.{word-same}
 use Rattle.image.proofs.Nodes.{links-node, height-is, entry-is, node-kept}
 use Rattle.image.proofs.Chains.{last, last-mem, tall-mem, tall-ext, Linked, linked-chained, link-lands}
@@ -34,21 +35,6 @@ pub record Room (xs : List ℕ) (e : Entry) (h : ℕ) : Type 0 where
   pub legal : Legal e
   pub more : count xs < maxNodes
   pub space : 12 + 4 * h + length (encode e) ≤ length xs - 4 * count xs - free xs
-
--- what an addition comes to
-pub record Added (xs : List ℕ) (e : Entry) (h : ℕ) (prev ys : List ℕ) : Type 0 where
-  pub sound : Sound ys
-  pub length-same : length ys ≡ length xs
-  pub one-more : count ys ≡ suc (count xs)
-  pub moved : free ys ≡ free xs + sizeOf h e
-  pub heights-kept : (i : ℕ) → 1 ≤ i → i ≤ count xs → heightOf ys i ≡ heightOf xs i
-  pub entries-kept : (i : ℕ) → 1 ≤ i → i ≤ count xs → entryOf ys i ≡ entryOf xs i
-  pub height-new : heightOf ys (suc (count xs)) ≡ h
-  pub entry-new : entryOf ys (suc (count xs)) ≡ e
-  pub held-more : held ys ≡ held xs ++ (e ∷ [])
-  -- every other byte is kept
-  pub kept : (q : ℕ) → (4 ≤ q → q < 12 → ⊥) → (free xs ≤ q → q < free xs + sizeOf h e → ⊥) → (length xs - 4 * suc (count xs) ≤ q → q < length xs - 4 * count xs → ⊥)
-      → ((l : ℕ) → l < h → linkPlace xs (getD prev l 0) l ≤ q → q < linkPlace xs (getD prev l 0) l + 4 → ⊥) → getD ys q 0 ≡ getD xs q 0
 
 module _ (xs : List ℕ) (s : Sound xs) (e : Entry) (h : ℕ) (room : Room xs e h) (prev pre post : List ℕ) (split : s .sequence ≡ pre ++ post)
     (recorded : (l : ℕ) → l < h → getD prev l 0 ≡ last 0 (tall (heightOf xs) l pre)) where
@@ -247,7 +233,7 @@ module _ (xs : List ℕ) (s : Sound xs) (e : Entry) (h : ℕ) (room : Room xs e 
       chained = linked-chained levels (heightOf ys) (linkOf ys) (pre ++ (suc (count xs) ∷ post)) linked-new;
     }
 
-    pub entry-added : Added xs e h prev (withEntry xs e h prev)
+    pub entry-added : Added xs e h (withEntry xs e h prev)
     unfolding ys
     entry-added = record {
       sound = sound-ys;
@@ -259,5 +245,4 @@ module _ (xs : List ℕ) (s : Sound xs) (e : Entry) (h : ℕ) (room : Room xs e 
       height-new = new-height;
       entry-new = new-entry;
       held-more = held-new;
-      kept = w .kept;
     }

@@ -9,6 +9,9 @@ use Rattle.image.specs.Refusals.{Refusal, damaged, numberOf, Answer, ref
 pub refused-given {ℓ} : {A : Type ℓ} {r : Refusal} {a : A} → refused r ≡ given a → ⊥
 refused-given e = let z : _≡_ {A = ℕ} 0 1 = cc in omega arith
 
+pub given-same {ℓ} : {A : Type ℓ} {a b : A} → given a ≡ given b → a ≡ b
+given-same e = cc
+
 -- an answer that is given met the demand
 pub demand-given {ℓ} : {A : Type ℓ} (t : Bool) (r : Refusal) (a : Answer A) (b : A) → demand t r a ≡ given b → (t ≡ true) × (a ≡ given b)
 demand-given true r a b e = (refl, e)

@@ -17,9 +17,10 @@ use Rattle.rule.proofs.Order.{entries, comparePairs, less-equal}
 use Rattle.rule.proofs.Lists.{here, part, pairwise-map}
 use Rattle.image.specs.Limits.{levels}
 use Rattle.image.specs.Readers.{Read, got, bad, check}
-use Rattle.image.specs.Nodes.{count, free, slot, Lead, leadOf, heightOf, entryOf, linkPlace, linkOf}
+use Rattle.image.specs.Nodes.{count, free, slot, leadOf, heightOf, entryOf, linkPlace, linkOf}
 use Rattle.image.specs.Chains.{tall}
 use Rattle.image.specs.Sound.{Sound}
+use Rattle.image.specs.Added.{HasLink}
 use Rattle.image.specs.Search.{Turn, onward, halt, below, OnEqual, toStop, toGoDown, toPass, turnBy, Found, hit, ends, ask, meet, look, searched, looksOf, standing}
 use Rattle.image.proofs.Readers.{got-same, bind-got, check-got}
 use Rattle.image.proofs.Nodes.{lead-read, node-entry}
@@ -52,39 +53,35 @@ module _ (xs : List ℕ) (mode : OnEqual) (k : List ℕ) (s : ℕ) where
   pub searched-records : (r : Found) → searched xs mode k s ≡ got r → Records (look xs mode k s) (linkOf xs) (linkPlace xs) levels r
   searched-records r e = find-records (look xs mode k s) (linkOf xs) (linkPlace xs) (count xs + levels) 0 (levels - 1) 0 (replicate levels 0) r e
 
--- the head, or a node that is read and is tall enough for the level
-abbrev pub Good : List ℕ → ℕ → ℕ → Type 0
-Good xs x l = (x ≡ 0) ⊎ ((1 ≤ x) × (x ≤ count xs) × ((m : Lead) × (leadOf xs x ≡ got m) × (l < m .height)))
-
-pub good-lower : (xs : List ℕ) (x l k : ℕ) → k ≤ l → Good xs x l → Good xs x k
+pub good-lower : (xs : List ℕ) (x l k : ℕ) → k ≤ l → HasLink xs x l → HasLink xs x k
 good-lower xs x l k h (inl e) = inl e
 good-lower xs x l k h (inr (a, b, (m, g, c))) = inr (a, b, (m, g, omega arith))
 
 module _ (xs : List ℕ) (mode : OnEqual) (k : List ℕ) (s : ℕ) where
   -- a search passes only such nodes
-  pub look-good : (cur level : ℕ) → look xs mode k s cur level ≡ got onward → Good xs (linkOf xs cur level) level
+  pub look-good : (cur level : ℕ) → look xs mode k s cur level ≡ got onward → HasLink xs (linkOf xs cur level) level
   unfolding look
   look-good cur level e = let (p, q) = check-got (leb (linkOf xs cur level) (count xs)) (linkPlace xs cur level) (meet xs mode k s level (linkPlace xs cur level) (linkOf xs cur level)) onward e in go (linkOf xs cur level) (leb-true (linkOf xs cur level) (count xs) p) q
     where
-      go : (x : ℕ) → x ≤ count xs → meet xs mode k s level (linkPlace xs cur level) x ≡ got onward → Good xs x level
+      go : (x : ℕ) → x ≤ count xs → meet xs mode k s level (linkPlace xs cur level) x ≡ got onward → HasLink xs x level
       go zero h f = let z : below ≡ onward = got-same f in inl refl
       go (suc x) h f = let (m, g, f1) = bind-got (leadOf xs (suc x)) (ask xs mode k s level (linkPlace xs cur level)) onward f in let (c, f2) = check-got (ltb level (m .height)) (linkPlace xs cur level) _ onward f1 in inr (omega arith, h, (m, g, ltb-true level (m .height) c))
 
   -- so what it records at each level can be written to
   abbrev pub AllGood : Found → Type 0
   AllGood (hit x looks) = Unit
-  AllGood (ends p x looks prev) = (l : ℕ) → l < levels → Good xs (getD prev l 0) l
+  AllGood (ends p x looks prev) = (l : ℕ) → l < levels → HasLink xs (getD prev l 0) l
 
   -- where it stands, and what is recorded of the levels above
   record Standing (cur level : ℕ) (prev : List ℕ) : Type 0 where
     wide : length prev ≡ levels
-    here : Good xs cur level
-    above : (l : ℕ) → level < l → l < levels → Good xs (getD prev l 0) l
+    here : HasLink xs cur level
+    above : (l : ℕ) → level < l → l < levels → HasLink xs (getD prev l 0) l
 
-  record-good : (cur level : ℕ) (prev : List ℕ) → Standing cur level prev → (l : ℕ) → level ≤ l → l < levels → Good xs (getD (set prev level cur) l 0) l
+  record-good : (cur level : ℕ) (prev : List ℕ) → Standing cur level prev → (l : ℕ) → level ≤ l → l < levels → HasLink xs (getD (set prev level cur) l 0) l
   record-good cur level prev t l a b = go (ℕ-discrete l level)
     where
-      go : Dec (l ≡ level) → Good xs (getD (set prev level cur) l 0) l
+      go : Dec (l ≡ level) → HasLink xs (getD (set prev level cur) l 0) l
       go (yes e) = rw (e, getD-set-same prev level cur 0 (omega (arith, t .wide))) (t .here)
       go (no z) = rw (getD-set-other prev level l cur 0 z) (t .above l (omega arith) b)
 

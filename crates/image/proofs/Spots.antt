@@ -10,10 +10,11 @@ use borrow.Author.Tests.{leb-true}
 use Rattle.image.specs.Limits.{levels}
 use Rattle.image.specs.Readers.{got}
 use Rattle.image.specs.Nodes.{count, linkPlace, linkOf}
+use Rattle.image.specs.Added.{HasLink}
 use Rattle.image.specs.Search.{Turn, halt, below, OnEqual, Found, hit, ends, meet, look, searched, standing, passed}
 use Rattle.image.proofs.Readers.{got-same, check-got}
 use Rattle.image.proofs.Machine.{find-keeps}
-use Rattle.image.proofs.Search.{Good, good-lower, look-good, searched-looks, searched-records, searched-good}
+use Rattle.image.proofs.Search.{good-lower, look-good, searched-looks, searched-records, searched-good}
 
 -- a search that stopped: at a node, after few looks
 pub record Stopped (xs : List ℕ) (x looks : ℕ) : Type 0 where
@@ -27,10 +28,10 @@ pub record Ended (xs : List ℕ) (p x looks : ℕ) (prev : List ℕ) : Type 0 wh
   pub after-most : x ≤ count xs
   pub few : looks ≤ count xs + levels
   pub wide : length prev ≡ levels
-  pub good : (l : ℕ) → l < levels → Good xs (getD prev l 0) l
+  pub good : (l : ℕ) → l < levels → HasLink xs (getD prev l 0) l
 
 -- a node that is good at a level is the head or one of the nodes
-good-most : (xs : List ℕ) (x l : ℕ) → Good xs x l → x ≤ count xs
+good-most : (xs : List ℕ) (x l : ℕ) → HasLink xs x l → x ≤ count xs
 good-most xs x l (inl e) = omega arith
 good-most xs x l (inr (a, b, c)) = b
 
@@ -53,7 +54,7 @@ module _ (xs : List ℕ) (mode : OnEqual) (k : List ℕ) (s : ℕ) where
   Most (ends p x looks prev) = (p ≤ count xs) × (x ≤ count xs)
 
   searched-most : (r : Found) → searched xs mode k s ≡ got r → Most r
-  searched-most r e = find-keeps (look xs mode k s) (linkOf xs) (linkPlace xs) (λ n cur level looks prev. Good xs cur level) Most (record {
+  searched-most r e = find-keeps (look xs mode k s) (linkOf xs) (linkPlace xs) (λ n cur level looks prev. HasLink xs cur level) Most (record {
     passing = λ n cur level looks prev f g. look-good xs mode k s cur level f;
     stopping = λ n cur level looks prev f g. (look-some cur level f, look-most cur level halt f);
     lowering = λ n cur low looks prev f g. good-lower xs cur (suc low) low (omega arith) g;

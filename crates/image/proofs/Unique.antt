@@ -16,12 +16,12 @@ use Rattle.image.specs.Words.{Bytes, word}
 use Rattle.image.specs.Entries.{encode}
 use Rattle.image.specs.Nodes.{count, free, slot, slotPlace, entryPlace, NodeHere, heightOf, entryOf, linkOf}
 use Rattle.image.specs.Sound.{Sound, placeOf, sizeAt}
+use Rattle.image.specs.Added.{Added}
 use Rattle.image.proofs.Words.{word-unique, holds-both}
 use Rattle.image.proofs.Nodes.{links-node}
 use Rattle.image.proofs.Chains.{Linked}
 use Rattle.image.proofs.Insert.{linked-ext, linked-head-unique, linked-unique}
 use Rattle.image.proofs.Sound.{place-slot, place-free, linked, everywhere, pairwise-ext}
-use Rattle.image.proofs.Grow.{Added}
 
 -- two lists in ascending order with the same members are one
 module _ {ℓ} {A : Type ℓ} (R : A → A → Type 0) (strict : (x y : A) → R x y → R y x → ⊥) where
@@ -131,10 +131,10 @@ module _ (xs ys : List ℕ) (s : Sound xs) (t : Sound ys) (bx : Bytes xs) (by : 
       go (no z) (no y) (no x) = in-slots q (omega arith) b
 
 -- so the outcome of an addition is the one sound image, of the same length, whose old nodes keep height and entry and whose last node is the new one
-pub addition-unique : (xs : List ℕ) (e : Entry) (h : ℕ) (prev ys zs : List ℕ) → Added xs e h prev ys → Sound zs → Bytes ys → Bytes zs → length zs ≡ length xs → count zs ≡ suc (count xs)
+pub addition-unique : (xs : List ℕ) (e : Entry) (h : ℕ) (ys zs : List ℕ) → Added xs e h ys → Sound zs → Bytes ys → Bytes zs → length zs ≡ length xs → count zs ≡ suc (count xs)
     → ((i : ℕ) → 1 ≤ i → i ≤ count xs → heightOf zs i ≡ heightOf xs i) → ((i : ℕ) → 1 ≤ i → i ≤ count xs → entryOf zs i ≡ entryOf xs i) → heightOf zs (suc (count xs)) ≡ h → entryOf zs (suc (count xs)) ≡ e
     → (q : ℕ) → q < length ys → (free ys ≤ q → q < length ys - 4 * count ys → ⊥) → getD ys q 0 ≡ getD zs q 0
-addition-unique xs e h prev ys zs a t by bz len one hs es h1 e1 = sound-unique ys zs (a .sound) t by bz (a .length-same ∙ sym len) (a .one-more ∙ sym one) (λ i p r. height i p (ℕ-discrete i (suc (count xs))) r) (λ i p r. entry i p (ℕ-discrete i (suc (count xs))) r)
+addition-unique xs e h ys zs a t by bz len one hs es h1 e1 = sound-unique ys zs (a .sound) t by bz (a .length-same ∙ sym len) (a .one-more ∙ sym one) (λ i p r. height i p (ℕ-discrete i (suc (count xs))) r) (λ i p r. entry i p (ℕ-discrete i (suc (count xs))) r)
   where
     height : (i : ℕ) → 1 ≤ i → Dec (i ≡ suc (count xs)) → i ≤ count ys → heightOf ys i ≡ heightOf zs i
     height i p (yes z) r = rw z (a .height-new ∙ sym h1)

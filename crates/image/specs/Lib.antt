@@ -9,6 +9,7 @@ pub mod Search
 pub mod Refusals
 pub mod Fresh
 pub mod Add
+pub mod Added
 pub mod Lookup
 pub mod EntryMoves
 pub mod Meaning

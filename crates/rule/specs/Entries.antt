@@ -25,6 +25,10 @@ valueKind = 1
 abbrev pub order : Entry → Entry → Ord
 order e f = compareEntries (e .key) (e .number) (f .key) (f .number)
 
+-- two entries with equal key and number are duplicates, whatever their types
+abbrev pub Duplicates : Entry → Entry → Type 0
+Duplicates d e = (d .key ≡ e .key) × (d .number ≡ e .number)
+
 -- strictly ascending
 abbrev pub Ascending : List Entry → Type 0
 Ascending es = Pairwise (λ e f. order e f ≡ less) es

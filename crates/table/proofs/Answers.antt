@@ -2,7 +2,7 @@
 use Prim.Native.Nat.{ℕ, _<_, _≤_}
 use native.Mathlib.Omega.{arith}
 use native.Mathlib.Numerals.{add-one}
-use mathlib.Core.Path.{_≡_, sym, ap, _∙_}
+use mathlib.Core.Path.{_≡_, refl, sym, ap, _∙_}
 use mathlib.Core.List.{List}
 use mathlib.Core.Bool.{Bool, true, false, not}
 use lib.ListN.{length}
@@ -12,11 +12,12 @@ use Rattle.rule.specs.Entries.{Entry}
 use Rattle.image.specs.Limits.{headerSize, maxImage, maxKey, maxValue, maxNumber, levels}
 use Rattle.image.specs.Nodes.{count}
 use Rattle.image.specs.Sound.{Sound, headerHolds}
-use Rattle.image.specs.Refusals.{badImage, badKind, badNumber, longKey, longValue, badHeight, Answer, refused}
+use Rattle.image.specs.Refusals.{badImage, badKind, badNumber, longKey, longValue, badHeight, Answer, refused, given}
 use Rattle.image.specs.Fresh.{freshImage, fresh}
 use Rattle.image.specs.Add.{Grown, add, afterwards}
 use Rattle.image.proofs.Fresh.{fresh-sound, fresh-holds-nothing}
-use Rattle.image.proofs.Add.{add-searches, add-added, add-undamaged}
+use Rattle.image.specs.Added.{Confined}
+use Rattle.image.proofs.Add.{add-searches, add-decides, add-added, add-undamaged, add-confined, unchanged-confined}
 use Rattle.table.specs.Refusals.{refusalIs}
 use Rattle.table.specs.Nodes.{Framed}
 use Rattle.table.specs.Insert.{Insertable, insertedAs, Inserts}
@@ -50,13 +51,24 @@ fresh-done xs g h ys e = record {
 
 -- ---- add
 
--- what an answer promises on a sound image follows from what it is on any
-add-rule : (xs : List ℕ) (e : Entry) (h : ℕ) (r : Added) (ys : List ℕ) → addedAs r ys ≡ add xs e h → Sound xs → AddRule xs e r ys
-add-rule xs e h (added.Node i) ys f s = let (prev, n, a) = add-added xs s e h (record { node = i; image = ys }) (sym f) in (a .sound, a .held-more, n ∙ sym (add-one (count xs)))
-add-rule xs e h (added.Refused q) ys f s = λ d. add-undamaged xs s e h (sym f ∙ ap {B = Answer Grown} refused d)
+-- what an answer promises besides follows from what it is
+module _ (xs : List ℕ) (e : Entry) (h : ℕ) where
+  add-rule : (r : Added) (ys : List ℕ) → addedAs r ys ≡ add xs e h → Sound xs → AddRule xs e h r ys
+  add-rule (added.Node i) ys f s = let (n, a) = add-added xs s e h (record { node = i; image = ys }) (sym f) in (a, n ∙ sym (add-one (count xs)))
+  add-rule (added.Refused q) ys f s = λ d. add-undamaged xs s e h (sym f ∙ ap {B = Answer Grown} refused d)
 
-pub adds : (xs : List ℕ) (e : Entry) (h : ℕ) (r : Added) (ys : List ℕ) → addedAs r ys ≡ add xs e h → ys ≡ afterwards xs (add xs e h) → Adds xs e h r ys
-adds xs e h r ys f b = record { exact = f; bytes = b; rule = add-rule xs e h r ys f }
+  confines : (a : Answer Grown) → add xs e h ≡ a → Confined xs e h (afterwards xs a)
+  confines (refused q) f = unchanged-confined xs e h
+  confines (given g) f = add-confined xs e h g f
+
+  pub adds : (r : Added) (ys : List ℕ) → addedAs r ys ≡ add xs e h → ys ≡ afterwards xs (add xs e h) → Adds xs e h r ys
+  adds r ys f b = record {
+    exact = f;
+    bytes = b;
+    rule = add-rule r ys f;
+    outcome = λ s legal low high. rw f (add-decides xs s e h (record { legal = legal; low = low; high = high }));
+    confined = rw b (confines (add xs e h) refl);
+  }
 
 -- a refusal keeps every byte
 pub adds-refused : (xs : List ℕ) (e : Entry) (h : ℕ) (q : Refusal) → refused (refusalIs q) ≡ add xs e h → Adds xs e h (added.Refused q) xs

@@ -26,7 +26,7 @@ use Rattle.table.specs.declared.memtable.Added.the-variants as added
 
 -- an accepted addition keeps every node, and the table sound
 pub add-keeps : (xs : List ℕ) → Sound xs → (e : Entry) (h i : ℕ) (ys : List ℕ) → Adds xs e h (added.Node i) ys → Grows xs ys
-add-keeps xs s e h i ys a = let (prev, _, g) = add-added xs s e h (record { node = i; image = ys }) (sym (a .exact)) in record {
+add-keeps xs s e h i ys a = let (_, g) = add-added xs s e h (record { node = i; image = ys }) (sym (a .exact)) in record {
   sound = g .sound;
   node-kept = λ j n. record { some = n .some; most = omega (arith, g .one-more, n .most) };
   entry-kept = λ j n. g .entries-kept j (n .some) (n .most);
@@ -34,7 +34,7 @@ add-keeps xs s e h i ys a = let (prev, _, g) = add-added xs s e h (record { node
 
 -- the new node has the entry
 pub add-node : (xs : List ℕ) → Sound xs → (e : Entry) (h i : ℕ) (ys : List ℕ) → Adds xs e h (added.Node i) ys → IsNode ys i × (entryOf ys i ≡ e)
-add-node xs s e h i ys a = let (prev, n, g) = add-added xs s e h (record { node = i; image = ys }) (sym (a .exact)) in
+add-node xs s e h i ys a = let (n, g) = add-added xs s e h (record { node = i; image = ys }) (sym (a .exact)) in
     (record { some = omega (arith, n); most = omega (arith, n, g .one-more) }, ap (entryOf ys) n ∙ g .entry-new)
 
 -- nodes are kept by no addition, and by one after the other
@@ -65,7 +65,7 @@ additions-grow {xs} s (more {ys = ys} {zs = zs} e h i a b) = let g = add-keeps x
 -- and what was held is followed by what was added
 pub additions-held : {xs ys : List ℕ} {es : List Entry} → Sound xs → Additions xs es ys → held ys ≡ held xs ++ es
 additions-held {xs} s none = sym (append-nil (held xs))
-additions-held {xs} s (more {ys = ys} {zs = zs} {es = es} e h i a b) = let (t, k, _) = a .rule s in additions-held t b ∙ ap (λ (fs : List Entry). fs ++ es) k ∙ append-assoc (held xs) (e ∷ []) es
+additions-held {xs} s (more {ys = ys} {zs = zs} {es = es} e h i a b) = let (g, _) = a .rule s in additions-held (g .sound) b ∙ ap (λ (fs : List Entry). fs ++ es) (g .held-more) ∙ append-assoc (held xs) (e ∷ []) es
 
 -- a table holds what it was filled with, in order of arrival
 pub filled-sound : (es : List Entry) (xs : List ℕ) → Filled es xs → Sound xs

@@ -14,18 +14,16 @@ use Rattle.rule.specs.Entries.{Entry, order}
 use Rattle.rule.specs.Moves.{first, seek, next, previous, target, best}
 use Rattle.rule.proofs.Lists.{both-true}
 use Rattle.rule.proofs.Order.{entries-less-number}
-use Rattle.image.specs.Limits.{levels, maxNodes, maxNumber, maxKey}
+use Rattle.image.specs.Limits.{levels, maxNodes}
 use Rattle.image.specs.Nodes.{count, entryOf}
 use Rattle.image.specs.Sound.{Sound, headerHolds, held, heldUpTo}
-use Rattle.image.specs.Search.{toStop, searched, standing, looksOf}
-use Rattle.image.specs.Lookup.{Lookup, saidAt, get}
-use Rattle.image.specs.Refusals.{Answer, given, badImage, badNumber, longKey}
+use Rattle.image.specs.Lookup.{Lookup, get}
+use Rattle.image.specs.Refusals.{given}
 use Rattle.image.specs.EntryMoves.{on, inTable, numberView}
 use Rattle.image.specs.Meaning.{IsNode}
 use Rattle.image.specs.Cuts.{Cut, all, from, above, below, cmpOf, admits, pastOf}
-use Rattle.image.proofs.Refusals.{demand-given, reading-given}
-use Rattle.image.proofs.Search.{searched-looks}
-use Rattle.image.proofs.Sound.{header-sound, header-complete, everywhere}
+use Rattle.image.proofs.Lookup.{get-given}
+use Rattle.image.proofs.Sound.{header-complete, everywhere}
 use Rattle.image.proofs.Held.{held-has}
 use Rattle.image.proofs.Views.{number-shown}
 use Rattle.table.specs.EntryViews.{shownNumber}
@@ -107,15 +105,4 @@ module _ (s : ℕ) (es : List Entry) where
 
 -- on any bytes a lookup takes few looks
 pub get-looks : (xs k : List ℕ) (s : ℕ) (a : Lookup) → get xs k s ≡ given a → a .looks ≤ maxNodes + levels
-unfolding get
-get-looks xs k s a e =
-    let (h, p) = demand-given (headerHolds xs) badImage _ a e in
-    let (_, q) = demand-given (leb s maxNumber) badNumber _ a p in
-    let (_, r) = demand-given (leb (length k) maxKey) longKey _ a q in
-    let (f, i, t) = reading-given (searched xs toStop k s) _ a r in
-    let (b, _, u) = reading-given (saidAt xs k (standing f)) _ a t in
-    let z : looksOf f ≡ a .looks = same u in
-    omega (arith, z, searched-looks xs toStop k s f i, header-sound xs h .few)
-  where
-    same : {c d : Lookup} → _≡_ {A = Answer Lookup} (given c) (given d) → c .looks ≡ d .looks
-    same e = let z : _ ≡ _ = e in cc
+get-looks xs k s a e = let (h, l) = get-given xs k s a e in omega (arith, h .few)

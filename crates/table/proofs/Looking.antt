@@ -19,7 +19,8 @@ use Rattle.image.proofs.Nodes.{lead-bounds}
 use Rattle.image.specs.Sound.{Header}
 use Rattle.image.specs.Search.{Turn, onward, halt, below, OnEqual, turnBy, ends, find, ask, meet, look, searched}
 use Rattle.image.proofs.Machine.{find-bad, find-onward, find-halt, find-none, find-ends, find-down}
-use Rattle.image.proofs.Search.{Good, good-lower, look-good}
+use Rattle.image.specs.Added.{HasLink}
+use Rattle.image.proofs.Search.{good-lower, look-good}
 use Rattle.table.specs.Nodes.{Framed}
 use Rattle.table.specs.Skipmap.{Searches}
 use Rattle.table.specs.declared.nodes.Frame.{Frame}
@@ -69,7 +70,7 @@ pub record Looking (xs : List ℕ) (f : Frame) (mode : OnEqual) (k : List ℕ) (
   pub low : level < levels
   pub links-are : links ≡ linksAt xs before
   pub inside : links + 4 * level + 4 ≤ length xs
-  pub good : Good xs before level
+  pub good : HasLink xs before level
   pub prev : List ℕ
   pub room : length prev ≡ levels
   pub places-room : length places ≡ levels
@@ -161,7 +162,7 @@ module _ {xs : List ℕ} {f : Frame} {mode : OnEqual} {k : List ℕ} {s n most :
         same = from ∙ find-onward (look xs mode k s) (linkOf xs) (linkPlace xs) (most - (looks + 1)) before level looks (g .prev) (look-is (got onward) e) ∙ rw (link-is, add-one looks);
       }
         where
-          good : Good xs x level
+          good : HasLink xs x level
           good = rw link-is at (look-good xs mode k s before level (look-is (got onward) e))
 
       module _ (e : got below ≡ meet xs mode k s level (links + 4 * level) x) where

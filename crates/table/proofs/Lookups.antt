@@ -20,7 +20,7 @@ use Rattle.image.specs.Refusals.{badImage, badNumber, longKey, damaged, Answer,
 use Rattle.image.specs.Lookup.{Looked, found, deleted, absent, Lookup, saidAt, get}
 use Rattle.image.proofs.Nodes.{node-inside}
 use Rattle.image.proofs.Spots.{search-stopped, search-ended}
-use Rattle.image.proofs.Lookup.{get-tells}
+use Rattle.image.proofs.Lookup.{get-given, get-tells}
 use Rattle.table.specs.Nodes.{Framed, Numbered, InTable}
 use Rattle.table.specs.Skipmap.{spotRead, Searches}
 use Rattle.table.specs.Memtable.{andThen, lookupAs, Gets}
@@ -109,7 +109,11 @@ module _ (xs k : List ℕ) (s : ℕ) where
 
 -- what the answer means follows from what it is
 pub gets : (xs k : List ℕ) (s : ℕ) (r : LookupAnswer) → lookupAs r ≡ get xs k s → Gets xs k s r
-gets xs k s r e = record { exact = e; rule = λ sound low short. let (a, f, t, l) = get-tells xs sound k s low short in (a, e ∙ f, t, l) }
+gets xs k s r e = record {
+  exact = e;
+  looks = λ a f. (get-given xs k s a (sym e ∙ f)) .1;
+  rule = λ sound low short. let (a, f, t) = get-tells xs sound k s low short in (a, e ∙ f, t);
+}
 
 -- where a search ended, by the spot that the code was told
 module _ {xs : List ℕ} {mode : OnEqual} {k : List ℕ} {s : ℕ} {r : Searched} (q : Searches xs mode k s r) where

@@ -16,7 +16,7 @@ use Rattle.image.specs.Sound.{Header, headerHolds}
 use Rattle.image.proofs.Readers.{got-same, bind-got}
 use Rattle.image.proofs.Nodes.{lead-bounds, links-node}
 use Rattle.image.proofs.Sound.{header-sound, header-complete}
-use Rattle.image.proofs.Search.{Good}
+use Rattle.image.specs.Added.{HasLink}
 use Rattle.table.specs.Nodes.{Framed}
 use Rattle.table.specs.declared.nodes.Frame.{Frame}
 
@@ -98,7 +98,7 @@ pub lead-links : (xs : List ℕ) (x : ℕ) {m : Lead} → 1 ≤ x → got m ≡ 
 lead-links xs x {m} p e = omega (arith, links-node xs x p, (lead-bounds xs (free xs) (slot xs x) m (sym e)) .start-is)
 
 -- the head, or a node tall enough for the level, has a link there
-pub good-inside : (xs : List ℕ) (i level : ℕ) → Header xs → level < levels → Good xs i level → linkPlace xs i level + 4 ≤ length xs
+pub good-inside : (xs : List ℕ) (i level : ℕ) → Header xs → level < levels → HasLink xs i level → linkPlace xs i level + 4 ≤ length xs
 good-inside xs i level h b (inl e) = omega (arith, ap (linksAt xs) e, h .long)
 good-inside xs i level h b (inr (p, q, (m, g, c))) = let d = lead-bounds xs (free xs) (slot xs i) m g in omega (arith, links-node xs i p, d, h .high)
 

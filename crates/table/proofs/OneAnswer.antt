@@ -4,14 +4,17 @@ use mathlib.Core.Path.{_≡_, refl, sym, ap, _∙_}
 use mathlib.Core.Logic.{_⊎_, inl, inr}
 use mathlib.Core.List.{List}
 use mathlib.Core.Bool.{Bool, true, false, true≢false}
+use Rattle.rule.specs.Order.{Ord, less, equal, greater}
 use Rattle.rule.specs.Entries.{Entry}
+use Rattle.image.specs.Readers.{Read, got, bad}
 use Rattle.image.specs.Refusals as is
 use Rattle.image.specs.Refusals.{Answer, refused, given}
 use Rattle.image.specs.Sound.{headerHolds}
 use Rattle.image.specs.Add.{Grown}
 use Rattle.image.specs.Lookup.{Looked, found, deleted, absent, Lookup as LookupIs, Presence as PresenceIs}
-use Rattle.image.specs.EntryMoves.{Cursor, nowhere, on, inTable, EntryMove}
-use Rattle.image.specs.Cuts.{Cut}
+use Rattle.image.specs.EntryMoves.{Cursor, nowhere, on, inTable, EntryMove, Span}
+use Rattle.image.specs.Search.{Turn, onward, halt, below as down}
+use Rattle.image.specs.Cuts.{Cut, all, from, above, below}
 use Rattle.image.specs.Newest.{NewestAt as NewestAtIs, value, deletion, nothing}
 use Rattle.table.specs.Refusals.{refusalIs}
 use Rattle.table.specs.Memtable.{freshenedAs, Freshens, addedAs, Adds, lookupAs, Gets}
@@ -20,7 +23,14 @@ use Rattle.table.specs.Nodes.{Framed}
 use Rattle.table.specs.MemtableIter.{cursorIs, Tested, movedAs, HandsBack, Moves}
 use Rattle.table.specs.declared.nodes.Frame.{Frame}
 use Rattle.table.specs.Check.{Checked}
-use Rattle.table.specs.Questions.{hitAs, Nears, newestAs, TellsNewest}
+use Rattle.table.specs.Questions.{cutOf, hitAs, Nears, newestAs, TellsNewest}
+use Rattle.table.specs.KeyTypes.{ordOf}
+use Rattle.table.specs.Skipmap.{turnRead, LinksFrom}
+use Rattle.table.specs.EntrySpans.{spanAs, Spans}
+use Rattle.table.specs.declared.key_types.Ordering.{Ordering}
+use Rattle.table.specs.declared.key_types.Ordering.the-variants.{Less, Equal, Greater}
+use Rattle.table.specs.declared.skipmap.TurnRead.{TurnRead}
+use Rattle.table.specs.declared.skipmap.TurnRead.the-variants as turn
 use Rattle.table.specs.declared.refusals.Refusal.{Refusal}
 use Rattle.table.specs.declared.refusals.Refusal.the-variants.{BadImage, BadKind, BadNumber, LongKey, LongValue, BadHeight, NoRoom, Duplicate, Damaged, NoNode}
 use Rattle.table.specs.declared.memtable.Freshened.{Freshened}
@@ -37,6 +47,10 @@ use Rattle.table.specs.declared.memtable_iter.CursorTest.{CursorTest}
 use Rattle.table.specs.declared.memtable_iter.CursorTest.the-variants as test
 use Rattle.table.specs.declared.memtable_iter.EntryMoved.{EntryMoved}
 use Rattle.table.specs.declared.memtable_iter.EntryMoved.the-variants.{To, Refused}
+use Rattle.table.specs.declared.entry_spans.SpanOn.{SpanOn}
+use Rattle.table.specs.declared.entry_spans.SpanOn.the-variants as span
+use Rattle.table.specs.declared.questions.Cut.{Cut as CutHere}
+use Rattle.table.specs.declared.questions.Cut.the-variants as cut
 use Rattle.table.specs.declared.questions.Hit.{Hit}
 use Rattle.table.specs.declared.questions.Hit.the-variants as hit
 use Rattle.table.specs.declared.questions.NewestAt.{NewestAt}
@@ -123,6 +137,21 @@ newestFrom (given (value i)) = newest.Value i
 newestFrom (given (deletion i)) = newest.Deletion i
 newestFrom (given nothing) = newest.Absent
 newestFrom (refused r) = newest.Damaged
+
+spanFrom : Answer Span → SpanOn
+spanFrom (given s) = span.At (s .at) (s .len)
+spanFrom (refused r) = span.Refused (refusalFrom r)
+
+orderingFrom : Ord → Ordering
+orderingFrom less = Less
+orderingFrom equal = Equal
+orderingFrom greater = Greater
+
+cutFrom : Cut → CutHere
+cutFrom all = cut.All
+cutFrom from = cut.From
+cutFrom above = cut.Above
+cutFrom below = cut.Below
 
 -- ---- one answer
 
@@ -211,3 +240,53 @@ newest-one xs k s r q a b = recovered newestAs newestFrom back r q (a .exact ∙
     back (newest.Deletion i) = refl
     back newest.Absent = refl
     back newest.Damaged = refl
+
+pub span-one : (xs : List ℕ) (v : Answer Span) (r q : SpanOn) → Spans xs v r → Spans xs v q → r ≡ q
+unfolding spanFrom
+span-one xs v r q a b = recovered spanAs spanFrom back r q (a .exact ∙ sym (b .exact))
+  where
+    back : (r : SpanOn) → spanFrom (spanAs r) ≡ r
+    back (span.At o n) = refl
+    back (span.Refused q) = ap {B = SpanOn} span.Refused (refusal-back q)
+
+-- ---- where a promise is an equation through a definition, the definition takes no two answers to one
+
+-- `compare_keys`, `compare_entries`
+pub ordering-one : (r q : Ordering) → ordOf r ≡ ordOf q → r ≡ q
+unfolding orderingFrom
+ordering-one r q e = recovered ordOf orderingFrom back r q e
+  where
+    back : (r : Ordering) → orderingFrom (ordOf r) ≡ r
+    back Less = refl
+    back Equal = refl
+    back Greater = refl
+
+-- `past`
+pub cut-one : (r q : CutHere) → cutOf r ≡ cutOf q → r ≡ q
+unfolding cutFrom
+cut-one r q e = recovered cutOf cutFrom back r q e
+  where
+    back : (r : CutHere) → cutFrom (cutOf r) ≡ r
+    back cut.All = refl
+    back cut.From = refl
+    back cut.Above = refl
+    back cut.Below = refl
+
+-- `turn_by`: together with where the links of a passed node stand
+pub turn-one : (links : ℕ) (r q : TurnRead) → turnRead r ≡ turnRead q → LinksFrom links r → LinksFrom links q → r ≡ q
+turn-one links r q e a b = sym (back r a) ∙ ap turnFrom e ∙ back q b
+  where
+    passes : Turn → TurnRead
+    passes onward = turn.Onward links
+    passes halt = turn.Halt
+    passes down = turn.Below
+
+    turnFrom : Read Turn → TurnRead
+    turnFrom (got t) = passes t
+    turnFrom (bad o) = turn.Bad o
+
+    back : (r : TurnRead) → LinksFrom links r → turnFrom (turnRead r) ≡ r
+    back (turn.Onward at) h = ap {B = TurnRead} turn.Onward (sym h)
+    back turn.Halt h = refl
+    back turn.Below h = refl
+    back (turn.Bad o) h = refl

@@ -21,7 +21,7 @@ use Rattle.image.specs.Refusals.{badImage, badKind, badNumber, longKey, damaged
 use Rattle.image.specs.Lookup.{Looked, found, deleted, absent, Presence as PresenceIs, heldAt, presence}
 use Rattle.image.specs.EntryMoves.{on, viewed, valueView}
 use Rattle.image.specs.Meaning.{Tells}
-use Rattle.image.proofs.Lookup.{presence-tells}
+use Rattle.image.proofs.Lookup.{presence-given, presence-tells}
 use Rattle.image.proofs.Views.{value-shown}
 use Rattle.table.specs.Nodes.{Framed}
 use Rattle.table.specs.Memtable.{lookupAs, Gets}
@@ -49,7 +49,11 @@ module _ (xs : List ℕ) (kind x looks : ℕ) where
 
 -- what the answer means follows from what it is
 pub has : (xs k : List ℕ) (n kind : ℕ) (r : Presence) → presenceAs r ≡ presence xs k n kind → Contains xs k n kind r
-has xs k n kind r e = record { exact = e; rule = λ sound known low short. let (a, f, t, l) = presence-tells xs sound k n kind known low short in (a, e ∙ f, t, l) }
+has xs k n kind r e = record {
+  exact = e;
+  looks = λ a f. presence-given xs k n kind a (sym e ∙ f);
+  rule = λ sound known low short. let (a, f, t) = presence-tells xs sound k n kind known low short in (a, e ∙ f, t);
+}
 
 -- the tests in their order
 module _ (xs k : List ℕ) (n kind : ℕ) where
@@ -113,7 +117,7 @@ bare-else (lookup.Refused q) k = tt
 module _ (xs k : List ℕ) (s : ℕ) (r : Lookup) (gets : Gets xs k s r) where
   -- on a sound image what was found is the row
   row-shown : (v : List ℕ) → v ≡ foundValue xs (lookupAs r) → Sound xs → s ≤ maxNumber → length k ≤ maxKey → v ≡ rowValue (row k s (held xs))
-  row-shown v e sound low short = let (a, f, t, l) = gets .rule sound low short in e ∙ ap (foundValue xs) f ∙ told (a .says) t
+  row-shown v e sound low short = let (a, f, t) = gets .rule sound low short in e ∙ ap (foundValue xs) f ∙ told (a .says) t
     where
       told : (w : Looked) → Tells xs k s w → saidValue xs w ≡ rowValue (row k s (held xs))
       told (found i) (n, f, g) = value-shown xs sound i n ∙ rw (f, g)

@@ -1,7 +1,8 @@
--- What the calls on one table promise: `exact`, the answer and every lent byte on any bytes, and `rule`, what it means on a sound image.
+-- What the calls on one table promise: `exact`, the answer and every lent byte on any bytes, and what follows from it for a reader:
+-- `rule`, what it means on a sound image, and on any bytes how many looks it took and which bytes it may have changed.
 use Prim.Native.Nat.{ℕ, _+_, _≤_}
 use mathlib.Core.Path.{_≡_}
-use mathlib.Core.List.{List, [], _∷_, _++_}
+use mathlib.Core.List.{List, []}
 use lib.ListN.{length}
 use Rattle.rule.specs.Entries.{Entry}
 use Rattle.image.specs.Limits.{headerSize, maxImage, maxNumber, maxKey, levels}
@@ -9,7 +10,9 @@ use Rattle.image.specs.Nodes.{count}
 use Rattle.image.specs.Sound.{Sound, held}
 use Rattle.image.specs.Refusals.{damaged, Answer, refused, given}
 use Rattle.image.specs.Fresh.{fresh}
+use Rattle.image.specs.Entries.{Legal}
 use Rattle.image.specs.Add.{Grown, add, afterwards}
+use Rattle.image.specs.Added.{Added as AddedIs, Outcome, Confined}
 use Rattle.image.specs.Lookup.{Looked, found, deleted, absent, Lookup as LookupIs, get}
 use Rattle.image.specs.Meaning.{Tells}
 use Rattle.table.specs.Refusals.{refusalIs}
@@ -47,16 +50,20 @@ abbrev pub addedAs : Added → List ℕ → Answer Grown
 addedAs (added.Node i) ys = given (record { node = i; image = ys })
 addedAs (added.Refused q) ys = refused (refusalIs q)
 
--- exactly this entry is appended, in the next node, and the table stays sound; or the refusal is not damage
-abbrev pub AddRule : List ℕ → Entry → Added → List ℕ → Type 0
-AddRule xs e (added.Node i) ys = Sound ys × (held ys ≡ held xs ++ (e ∷ [])) × (i ≡ count xs + 1)
-AddRule xs e (added.Refused q) ys = refusalIs q ≡ damaged → ⊥
+-- on a sound image: the entry is appended in the next node and the table stays sound, or the refusal is not damage
+abbrev pub AddRule : List ℕ → Entry → ℕ → Added → List ℕ → Type 0
+AddRule xs e height (added.Node i) ys = AddedIs xs e height ys × (i ≡ count xs + 1)
+AddRule xs e height (added.Refused q) ys = refusalIs q ≡ damaged → ⊥
 
 -- what `add` promises, with the bytes afterwards
 pub record Adds (xs : List ℕ) (e : Entry) (height : ℕ) (r : Added) (ys : List ℕ) : Type 0 where
   pub exact : addedAs r ys ≡ add xs e height
   pub bytes : ys ≡ afterwards xs (add xs e height)
-  pub rule : Sound xs → AddRule xs e r ys
+  pub rule : Sound xs → AddRule xs e height r ys
+  -- and with legal arguments it is refused 8, refused 7 or accepted, as the duplicates held and the room decide
+  pub outcome : Sound xs → Legal e → 1 ≤ height → height ≤ levels → Outcome xs e height (addedAs r ys)
+  -- on any bytes only n, F, the new node, its slot and at most `height` links change
+  pub confined : Confined xs e height ys
 
 -- ---- get
 
@@ -79,11 +86,13 @@ lookupAs (lookup.Deleted looks) = given (record { says = deleted; looks = looks 
 lookupAs (lookup.Absent looks) = given (record { says = absent; looks = looks })
 lookupAs (lookup.Refused q) = refused (refusalIs q)
 
--- on a sound image, with a key and a snapshot within their limits: what it tells of the newest entry, after at most n + 12 looks
+-- on a sound image, with a key and a snapshot within their limits: what it tells of the newest entry
 abbrev pub GetRule : List ℕ → List ℕ → ℕ → Lookup → Type 0
-GetRule xs k s r = (a : LookupIs) × (lookupAs r ≡ given a) × Tells xs k s (a .says) × (a .looks ≤ count xs + levels)
+GetRule xs k s r = (a : LookupIs) × (lookupAs r ≡ given a) × Tells xs k s (a .says)
 
 -- what `get` promises
 pub record Gets (xs k : List ℕ) (s : ℕ) (r : Lookup) : Type 0 where
   pub exact : lookupAs r ≡ get xs k s
+  -- on any bytes an answer takes at most n + 12 looks
+  pub looks : (a : LookupIs) → lookupAs r ≡ given a → a .looks ≤ count xs + levels
   pub rule : Sound xs → s ≤ maxNumber → length k ≤ maxKey → GetRule xs k s r

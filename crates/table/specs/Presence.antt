@@ -24,13 +24,15 @@ presenceAs (Held looks) = given (record { held = true; looks = looks })
 presenceAs (NotHeld looks) = given (record { held = false; looks = looks })
 presenceAs (Refused q) = refused (refusalIs q)
 
--- on a sound image, with arguments within their limits: yes exactly if that entry is held, after at most n + 12 looks
+-- on a sound image, with arguments within their limits: yes exactly if that entry is held
 abbrev pub PresenceRule : List ℕ → List ℕ → ℕ → ℕ → Presence → Type 0
-PresenceRule xs k n kind r = (a : PresenceIs) × (presenceAs r ≡ given a) × ((a .held ≡ true) ↔ IsHeld xs k n kind) × (a .looks ≤ count xs + levels)
+PresenceRule xs k n kind r = (a : PresenceIs) × (presenceAs r ≡ given a) × ((a .held ≡ true) ↔ IsHeld xs k n kind)
 
 -- what `contains` promises
 pub record Contains (xs k : List ℕ) (n kind : ℕ) (r : Presence) : Type 0 where
   pub exact : presenceAs r ≡ presence xs k n kind
+  -- on any bytes an answer takes at most n + 12 looks
+  pub looks : (a : PresenceIs) → presenceAs r ≡ given a → a .looks ≤ count xs + levels
   pub rule : Sound xs → kind ≤ 1 → n ≤ maxNumber → length k ≤ maxKey → PresenceRule xs k n kind r
 
 -- the value of what a lookup says
