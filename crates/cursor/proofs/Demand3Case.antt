@@ -3,6 +3,7 @@
 use Prim.Native.Nat.{ℕ, _≤_, _<_}
 use native.Mathlib.Omega.{arith}
 use mathlib.Core.Path.{_≡_, refl, sym, ap, _∙_}
+use mathlib.Core.Logic.{inl}
 use mathlib.Core.List.{List, [], _∷_, _++_, List·Memᴰ, List·Memᴰ·tail}
 use mathlib.Core.Bool.{true, false≢true}
 use lib.ListN.{length, replicate}
@@ -238,14 +239,17 @@ module _ {t : Tables} {c : Cursor} {ms : List Moment} (m : Run 2 t c ms) {u : Ta
       → Run 2 u (On p) (moment u v (e .key) (e .value) ∷ ms)
   goes v o ds d k q p e s z n w x l = moved u v (To (On p)) (some (record { key = e .key; value = e .value })) m i j (record {
     refused = λ r f. absurd (refused-given (sym f ∙ asked-whole u c whole 2 (keyGiven v) ∙ o));
-    rule = λ _ _ _. rw (d, q, z) (record { inside = s .inside; newest-is = rw (d, s .entry) n; value-is = rw (s .entry) w; first = rw (s .entry) l });
-    lands = λ _. record {
-      inside = s .inside;
-      readable = view-accepted (imageOf (p .table) (u .first) (u .second)) (sound-of (u .first) (u .second) (whole .first) (whole .second) (p .table)) (p .node) (s .inside);
-      value-is = rw (s .entry) w;
-      number-most = rw (s .entry) (known (e .key) 2 ds (some e) n .1 .number);
-      ahead = rw (q, s .entry) x;
-    };
+    rule = λ _ _ _. rw (d, q, z) (p, refl, record { inside = s .inside; newest-is = rw (d, s .entry) n; value-is = rw (s .entry) w; first = rw (s .entry) l });
+    lands = λ _. inl (
+      refl,
+      record {
+        inside = s .inside;
+        readable = view-accepted (imageOf (p .table) (u .first) (u .second)) (sound-of (u .first) (u .second) (whole .first) (whole .second) (p .table)) (p .node) (s .inside);
+        value-is = rw (s .entry) w;
+        number-most = rw (s .entry) (known (e .key) 2 ds (some e) n .1 .number);
+        ahead = rw (q, s .entry) x;
+      },
+    );
   }) (
     shows-key (u .first) (u .second) (On p) (e .key) (sym (key-rule (u .first) (u .second) (whole .first) (whole .second) (On p) (s .inside) ∙ ap (λ (d : Entry). d .key) (s .entry))),
     shows-value (u .first) (u .second) (On p) (e .value) (sym (value-rule (u .first) (u .second) (whole .first) (whole .second) (On p) (s .inside) ∙ ap valueIn (s .entry) ∙ rw w)),

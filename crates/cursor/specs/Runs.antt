@@ -12,7 +12,7 @@ use Rattle.table.specs.Growth.{Begun, Additions}
 use Rattle.table.specs.declared.memtable.Lookup.{Lookup}
 use Rattle.table.specs.declared.memtable.Lookup.the-variants as lookup
 use Rattle.cursor.specs.Places.{all}
-use Rattle.cursor.specs.Moves.{Moves}
+use Rattle.cursor.specs.Moves.{movedAs, Moves}
 use Rattle.cursor.specs.Rows.{ShowsKey, ShowsValue}
 use Rattle.cursor.specs.declared.places.Cursor.{Cursor}
 use Rattle.cursor.specs.declared.places.Cursor.the-variants.{Nowhere, On}
@@ -27,16 +27,6 @@ pub record Tables : Type 0 where
 -- the entries of both
 abbrev pub entriesOf : Tables → List Entry
 entriesOf t = all (t .first) (t .second)
-
--- the cursor that an answer hands to the host
-abbrev pub cursorOf : Moved → Cursor
-cursorOf (To c) = c
-cursorOf (Refused q c) = c
-
--- the number of its refusal, 0 for none
-abbrev pub refusalOf : Moved → ℕ
-refusalOf (To c) = 0
-refusalOf (Refused q c) = numberOf (refusalIs q)
 
 -- the row shown at a cursor: none when nowhere, else a key and a value that the promises of the views allow
 abbrev pub Shows : Tables → Cursor → Maybe Row → Type 0
@@ -67,8 +57,8 @@ pub data Run (s : ℕ) : Tables → Cursor → List Moment → Type 0 where
   begun : {t : Tables} → Begun (t .first) → Begun (t .second) → Run s t Nowhere []
   moved : {t : Tables} {c : Cursor} {ms : List Moment} {es fs : List Entry} (u : Tables) (v : Move) (r : Moved) (w : Maybe Row)
       → Run s t c ms → Additions (t .first) es (u .first) → Additions (t .second) fs (u .second)
-      → Moves v (u .first) (u .second) s c r → Shows u (cursorOf r) w
-      → Run s u (cursorOf r) (record { tables = u; move = v; seen = record { refusal = refusalOf r; row = w } } ∷ ms)
+      → Moves v (u .first) (u .second) s c r → Shows u (movedAs r .cursor) w
+      → Run s u (movedAs r .cursor) (record { tables = u; move = v; seen = record { refusal = movedAs r .refusal; row = w } } ∷ ms)
 
 -- the same entries up to s, and no two different ones with the same key and number: in the one list, and so in the other (`agree-single`)
 pub record Alike (s : ℕ) (es fs : List Entry) : Type 0 where
