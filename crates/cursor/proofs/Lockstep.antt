@@ -48,7 +48,7 @@ abbrev keyIn : Maybe Entry → Maybe (List ℕ)
 keyIn none = none
 keyIn (some e) = some (e .key)
 
-abbrev rowIn : Maybe Entry → Maybe Row
+abbrev pub rowIn : Maybe Entry → Maybe Row
 rowIn none = none
 rowIn (some e) = some (record { key = e .key; value = valueIn e })
 
@@ -57,7 +57,7 @@ start-key t Nowhere = refl
 start-key t (On p) = refl
 
 -- what the views show is the row of that entry
-shows-row : (t : Tables) (c : Cursor) → Whole t c → (w : Maybe Row) → Shows t c w → w ≡ rowIn (entryOn t c)
+pub shows-row : (t : Tables) (c : Cursor) → Whole t c → (w : Maybe Row) → Shows t c w → w ≡ rowIn (entryOn t c)
 shows-row t Nowhere h none s = refl
 shows-row t Nowhere h (some w) s = absurd s
 shows-row t (On p) h none s = absurd s

@@ -27,7 +27,8 @@ use Rattle.cursor.specs.declared.walk.Spent.the-variants.{Rest, Over}
 use Rattle.cursor.specs.declared.walk.Found.{Found}
 use Rattle.cursor.specs.declared.walk.Found.the-variants as found
 
--- p is the place of the entry that gives the row of k at s; in a tie between the tables it is the first's
+-- p is the place of the entry that gives the row of k at s; in a tie between the tables it is the first's. `newest-is` fixes the entry, and `first` the
+-- table where the very same entry stands in both
 pub record Gives (f g : List ℕ) (s : ℕ) (k : List ℕ) (p : Place) : Type 0 where
   pub inside : PlaceIn f g p
   pub newest-is : newest k s (all f g) ≡ some (entryAt f g p)
