@@ -1,16 +1,15 @@
--- Two results that an export's promise allows are one, and so are the bytes that it leaves; of the visible cursor's moves on sound tables.
+-- Two results that an export's promise allows are one, and so are the bytes that it leaves; of the visible cursor's moves where they are refused and on sound tables.
 use Prim.Native.Nat.{ℕ}
 use mathlib.Core.Path.{_≡_, sym, ap, _∙_}
 use mathlib.Core.List.{List}
 use Rattle.rule.specs.Entries.{Entry}
 use Rattle.rule.specs.Moves.{Move}
-use Rattle.image.specs.Sound.{Sound}
 use Rattle.image.specs.EntryMoves.{EntryMove}
 use Rattle.table.specs.Memtable.{Freshens, Adds, Gets}
 use Rattle.table.specs.Presence.{Contains}
 use Rattle.table.specs.MemtableIter.{Moves as EntryMoves}
 use Rattle.table.proofs.OneAnswer as table
-use Rattle.cursor.specs.Moves.{Moves}
+use Rattle.cursor.specs.Moves.{Moves, Decided}
 use Rattle.cursor.specs.Pairs.{GetsPair}
 use Rattle.cursor.proofs.Unique as cursor
 use Rattle.capi.specs.Plain.{Plainly}
@@ -48,5 +47,5 @@ entry-move-one xs m at = once (plainEntryMoved at) (table.move-one xs m (entryCu
 pub pair-one : (f g k : List ℕ) (t : ℕ) {r s : BavoPairLookup} → Plainly plainPairLookup (λ a. GetsPair f g k t a) r → Plainly plainPairLookup (λ a. GetsPair f g k t a) s → r ≡ s
 pair-one f g k t = once plainPairLookup (cursor.pair-one f g k t)
 
-pub move-one : (v : Move) (f g : List ℕ) → Sound f → Sound g → (t : ℕ) (at : BavoCursor) {r s : BavoMoved} → Plainly (plainMoved at) (λ a. Moves v f g t (cursorOf at) a) r → Plainly (plainMoved at) (λ a. Moves v f g t (cursorOf at) a) s → r ≡ s
-move-one v f g x y t at = once (plainMoved at) (cursor.move-one v f g x y t (cursorOf at))
+pub move-one : (v : Move) (f g : List ℕ) (t : ℕ) (at : BavoCursor) → Decided v f g t (cursorOf at) → {r s : BavoMoved} → Plainly (plainMoved at) (λ a. Moves v f g t (cursorOf at) a) r → Plainly (plainMoved at) (λ a. Moves v f g t (cursorOf at) a) s → r ≡ s
+move-one v f g t at d = once (plainMoved at) (cursor.move-one v f g t (cursorOf at) d)

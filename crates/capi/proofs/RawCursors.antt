@@ -12,7 +12,7 @@ use Rattle.image.specs.EntryMoves.{Cursor, on, EntryMove, entryMove}
 use Rattle.table.specs.Refusals.{refusalIs}
 use Rattle.table.specs.MemtableIter.{movedAs, Moves as EntryMoves}
 use Rattle.cursor.specs.Places.{place}
-use Rattle.cursor.specs.Moves.{asked, keyGiven, RefusedWith, Moves}
+use Rattle.cursor.specs.Moves.{asked, keyGiven, MovedIs, movedAs as visibleAs, RefusedWith, Moves}
 use Rattle.capi.specs.Plain.{Plainly}
 use Rattle.capi.specs.EntryIter.{entryCursorOf, plainEntryMoved}
 use Rattle.capi.specs.DbIter.{cursorOf, plainMoved}
@@ -57,9 +57,10 @@ beyond : (at : BavoCursor) → 2 < at .table → cursorOf at ≡ visible.On (pla
 beyond at h = rw (ne-eqb (at .table) 0 (λ e. omega arith), ne-eqb (at .table) 1 (λ e. omega arith), ne-eqb (at .table) 2 (λ e. omega arith))
 
 -- what is refused with 10
-refusal : (at : BavoCursor) (c : _) (a : Moved) → RefusedWith noNode c a → plainMoved at a .refusal ≡ numberOf noNode
-refusal at c (To d) e = absurd e
-refusal at c (Refused q d) e = ap numberOf (e .0)
+refusal : (at : BavoCursor) (c : _) (a : Moved) → RefusedWith noNode c (visibleAs a) → plainMoved at a .refusal ≡ numberOf noNode
+refusal at c (To visible.Nowhere) e = ap (λ (w : MovedIs). w .refusal) e
+refusal at c (To (visible.On p)) e = ap (λ (w : MovedIs). w .refusal) e
+refusal at c (Refused q d) e = ap (λ (w : MovedIs). w .refusal) e
 
 handed : (at : BavoCursor) (a : Moved) → (plainMoved at a .refusal ≡ 0 → ⊥) → (plainMoved at a .table ≡ at .table) × (plainMoved at a .node ≡ at .node)
 handed at (To visible.Nowhere) n = absurd (n refl)

@@ -29,8 +29,8 @@ use Rattle.table.specs.declared.memtable.Lookup.{Lookup}
 use Rattle.table.specs.declared.memtable.Lookup.the-variants as lookup
 use Rattle.table.proofs.Lookups.{get-number, get-key}
 use Rattle.table.proofs.Growth.{additions-held, filled-sound, filled-held}
-use Rattle.cursor.specs.Moves.{Moves}
-use Rattle.cursor.specs.Runs.{Tables, entriesOf, cursorOf, refusalOf, Shows, Moment, seenIn, Run, Alike, Lockstep, movesIn, Still, Learnt, found, deleted, absent, refused, learnt}
+use Rattle.cursor.specs.Moves.{movedAs, Moves}
+use Rattle.cursor.specs.Runs.{Tables, entriesOf, Shows, Moment, seenIn, Run, Alike, Lockstep, movesIn, Still, SameMembers, Later, Learnt, found, deleted, absent, refused, learnt}
 use Rattle.cursor.specs.declared.places.Cursor.{Cursor}
 use Rattle.cursor.specs.declared.db_iter.Moved.{Moved}
 use Rattle.cursor.proofs.Lockstep.{same-shown, same-move, whole-grown, entry-grown, run-whole, in-step}
@@ -97,10 +97,6 @@ same-lookup s es fs xs ys a b agree k r q g h = go (leb s maxNumber) refl (leb (
 
 -- ---- what changes no row: a string of moves over tables that were filled, and then left as they are
 
--- the same members
-abbrev pub SameMembers : List Entry → List Entry → Type 0
-SameMembers es fs = (e : Entry) → List·Memᴰ e es ↔ List·Memᴰ e fs
-
 module _ (s : ℕ) (t u : Tables) {t′ u′ : Tables} {c d : Cursor} {ms ns : List Moment} (m : Run s t′ c ms) (n : Run s u′ d ns) (same : movesIn ms ≡ movesIn ns) (x : Still t ms) (y : Still u ns) where
   still : Alike s (entriesOf t) (entriesOf u) → seenIn ms ≡ seenIn ns
   still a = same-rows s m n (go ms ns same x y)
@@ -136,11 +132,8 @@ module _ (s : ℕ) (t u : Tables) {t′ u′ : Tables} {c d : Cursor} {ms ns : L
 
 -- ---- and entries accepted between two moves, if they are numbered above s: the move after them shows what it would have shown without them
 
-abbrev pub Later : ℕ → List Entry → Type 0
-Later s es = All (λ e. s < e .number) es
-
 pub between-hidden : (s : ℕ) {t u : Tables} {c : Cursor} {ms : List Moment} {es fs : List Entry} → Run s t c ms → Single s (entriesOf t) → Additions (t .first) es (u .first) → Later s es → Additions (t .second) fs (u .second) → Later s fs
-    → (v : Move) (r q : Moved) (w z : Maybe Row) → Moves v (t .first) (t .second) s c r → Shows t (cursorOf r) w → Moves v (u .first) (u .second) s c q → Shows u (cursorOf q) z → (refusalOf r ≡ refusalOf q) × (w ≡ z)
+    → (v : Move) (r q : Moved) (w z : Maybe Row) → Moves v (t .first) (t .second) s c r → Shows t (movedAs r .cursor) w → Moves v (u .first) (u .second) s c q → Shows u (movedAs q .cursor) z → (movedAs r .refusal ≡ movedAs q .refusal) × (w ≡ z)
 between-hidden s {t} {u} {c} {ms} {es} {fs} run single a i b j v r q w z x p y o =
     let h = run-whole run in
     let g = same-move t c u c (record { left = h; right = whole-grown t u c h a b; same = sym (entry-grown t u c h a b) }) s (record {
@@ -148,4 +141,4 @@ between-hidden s {t} {u} {c} {ms} {es} {fs} run single a i b j v r q w z x p y o
           (rw (additions-held (h .first) a) (agree-later s (held (t .first)) es i)) (rw (additions-held (h .second) b) (agree-later s (held (t .second)) fs j));
       single = single;
     }) v r q x y in
-    (g .refusal, same-shown t (cursorOf r) u (cursorOf q) (g .together) w z p o)
+    (g .refusal, same-shown t (movedAs r .cursor) u (movedAs q .cursor) (g .together) w z p o)

@@ -3,6 +3,7 @@
 use Prim.Native.Nat.{ℕ, _≤_, _<_}
 use native.Mathlib.Omega.{arith}
 use mathlib.Core.Path.{_≡_, refl, sym, ap, _∙_}
+use mathlib.Core.Logic.{inl}
 use mathlib.Core.List.{List, [], _∷_, _++_, List·Memᴰ, List·Memᴰ·tail}
 use mathlib.Core.Bool.{true, false≢true}
 use lib.ListN.{length, replicate}
@@ -60,7 +61,7 @@ f1 = after f0 (put a 1 x) 1
 abbrev f2 : List ℕ
 f2 = after f1 (gone a 7) 2
 
-abbrev g0 : List ℕ
+abbrev pub g0 : List ℕ
 g0 = freshImage (replicate 100 0)
 
 abbrev pub g1 : List ℕ
@@ -119,7 +120,7 @@ adding-a′ : Adds q1 (put a 1 x) 3 (added.Node 2) q2
 unfolding compareKeys compareEntries headerHolds add find look word putWord putWords linkOf heightOf entryOf nodeWritten written lenAt keyedAt restAt encode leadAt
 adding-a′ = adds q1 (put a 1 x) 3 (added.Node 2) q2 refl refl
 
-add-a : Additions f0 (put a 1 x ∷ []) f1
+pub add-a : Additions f0 (put a 1 x ∷ []) f1
 add-a = growth.more (put a 1 x) 1 1 adding-a growth.none
 
 add-later : Additions f1 (gone a 7 ∷ []) f2
@@ -166,6 +167,10 @@ held-none = begun-sound p0 (freshly (replicate 64 0xff) (omega arith) (omega ari
 
 pub held-left : entriesOf left ≡ put a 1 x ∷ put b 2 y ∷ []
 held-left = rw (held-f1, held-g1)
+
+-- before b is added
+pub held-early : entriesOf (record { first = f1; second = g0 }) ≡ put a 1 x ∷ []
+held-early = rw (held-f1, begun-sound g0 (freshly (replicate 100 0) (omega arith) (omega arith)) .1)
 
 held-later : entriesOf leftLater ≡ put a 1 x ∷ gone a 7 ∷ put b 2 y ∷ []
 held-later = rw (held-f2, held-g1)
@@ -224,7 +229,7 @@ right-b = let g = add-keeps q1 sound-q1 (put a 1 x) 3 2 q2 adding-a′ in let (n
 -- ---- the moves: first, next, previous
 
 -- a move over these tables, and the row that is shown after it
-abbrev moment : Tables → Move → List ℕ → List ℕ → Moment
+abbrev pub moment : Tables → Move → List ℕ → List ℕ → Moment
 moment t v k w = record { tables = t; move = v; seen = record { refusal = 0; row = some (record { key = k; value = w }) } }
 
 -- after additions a move that ends on the place of a value
@@ -232,20 +237,23 @@ module _ {t : Tables} {c : Cursor} {ms : List Moment} (m : Run 2 t c ms) {u : Ta
   whole : Whole u c
   whole = whole-grown t u c (run-whole m) i j
 
-  goes : (v : Move) → askedOf 2 (keyGiven v) ≡ given tt → (ds : List Entry) → entriesOf u ≡ ds → (k : Maybe (List ℕ)) → startKey (u .first) (u .second) c ≡ k
+  pub goes : (v : Move) → askedOf 2 (keyGiven v) ≡ given tt → (ds : List Entry) → entriesOf u ≡ ds → (k : Maybe (List ℕ)) → startKey (u .first) (u .second) c ≡ k
       → (p : Place) (e : Entry) → Stands u p e → target v 2 k ds ≡ some (e .key) → newest (e .key) 2 ds ≡ some e → e .kind ≡ valueKind → Ahead v k (e .key)
       → All (λ d. fits (e .key) 2 d ≡ true → d .number < e .number) (earlier (p .table) (u .first))
       → Run 2 u (On p) (moment u v (e .key) (e .value) ∷ ms)
   goes v o ds d k q p e s z n w x l = moved u v (To (On p)) (some (record { key = e .key; value = e .value })) m i j (record {
     refused = λ r f. absurd (refused-given (sym f ∙ asked-whole u c whole 2 (keyGiven v) ∙ o));
-    rule = λ _ _ _. rw (d, q, z) (record { inside = s .inside; newest-is = rw (d, s .entry) n; value-is = rw (s .entry) w; first = rw (s .entry) l });
-    lands = λ _. record {
-      inside = s .inside;
-      readable = view-accepted (imageOf (p .table) (u .first) (u .second)) (sound-of (u .first) (u .second) (whole .first) (whole .second) (p .table)) (p .node) (s .inside);
-      value-is = rw (s .entry) w;
-      number-most = rw (s .entry) (known (e .key) 2 ds (some e) n .1 .number);
-      ahead = rw (q, s .entry) x;
-    };
+    rule = λ _ _ _. rw (d, q, z) (p, refl, record { inside = s .inside; newest-is = rw (d, s .entry) n; value-is = rw (s .entry) w; first = rw (s .entry) l });
+    lands = λ _. inl (
+      refl,
+      record {
+        inside = s .inside;
+        readable = view-accepted (imageOf (p .table) (u .first) (u .second)) (sound-of (u .first) (u .second) (whole .first) (whole .second) (p .table)) (p .node) (s .inside);
+        value-is = rw (s .entry) w;
+        number-most = rw (s .entry) (known (e .key) 2 ds (some e) n .1 .number);
+        ahead = rw (q, s .entry) x;
+      },
+    );
   }) (
     shows-key (u .first) (u .second) (On p) (e .key) (sym (key-rule (u .first) (u .second) (whole .first) (whole .second) (On p) (s .inside) ∙ ap (λ (d : Entry). d .key) (s .entry))),
     shows-value (u .first) (u .second) (On p) (e .value) (sym (value-rule (u .first) (u .second) (whole .first) (whole .second) (On p) (s .inside) ∙ ap valueIn (s .entry) ∙ rw w)),
@@ -260,9 +268,6 @@ right-begun = begun (freshly (replicate 64 0xff) (omega arith) (omega arith)) (f
 -- the tables of the first move are undamaged, and its cursor is in them
 pub whole-begun : Whole left Nowhere
 whole-begun = whole-grown beganLeft left Nowhere (run-whole left-begun) add-a add-b
-
-pub whole-left : Whole left (On (place First 1))
-whole-left = record { first = whole-begun .first; second = whole-begun .second; within = left-a .inside }
 
 left-run : Run 2 leftLater (On (place First 1)) (moment leftLater previous a x ∷ moment leftLater next b y ∷ moment left first a x ∷ [])
 unfolding compareKeys

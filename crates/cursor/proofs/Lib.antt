@@ -7,6 +7,7 @@ pub mod Pairs
 pub mod Unique
 pub mod Growth
 pub mod Lockstep
+pub mod RowsSeen
 pub mod Demand3
 pub mod Demand3Case
 pub mod RuledOut

@@ -21,9 +21,9 @@ use Rattle.image.proofs.Sound.{header-complete}
 use Rattle.table.specs.Growth.{Additions}
 use Rattle.table.proofs.Growth.{begun-sound, additions-grow}
 use Rattle.cursor.specs.Places.{imageOf, entryAt, CursorIn, inside}
-use Rattle.cursor.specs.Moves.{asked, keyGiven, startKey, LeadsTo, RefusedWith, Moves}
+use Rattle.cursor.specs.Moves.{asked, keyGiven, startKey, MovedIs, movedAs, LeadsTo, RefusedWith, Moves}
 use Rattle.cursor.specs.Rows.{valueIn}
-use Rattle.cursor.specs.Runs.{Tables, entriesOf, cursorOf, refusalOf, Shows, Moment, seenIn, Run, begun, moved, Alike, Lockstep}
+use Rattle.cursor.specs.Runs.{Tables, entriesOf, Shows, Moment, seenIn, Run, begun, moved, Alike, Lockstep}
 use Rattle.cursor.specs.declared.places.Cursor.{Cursor}
 use Rattle.cursor.specs.declared.places.Cursor.the-variants.{Nowhere, On}
 use Rattle.cursor.specs.declared.db_iter.Moved.{Moved}
@@ -48,7 +48,7 @@ abbrev keyIn : Maybe Entry → Maybe (List ℕ)
 keyIn none = none
 keyIn (some e) = some (e .key)
 
-abbrev rowIn : Maybe Entry → Maybe Row
+abbrev pub rowIn : Maybe Entry → Maybe Row
 rowIn none = none
 rowIn (some e) = some (record { key = e .key; value = valueIn e })
 
@@ -57,7 +57,7 @@ start-key t Nowhere = refl
 start-key t (On p) = refl
 
 -- what the views show is the row of that entry
-shows-row : (t : Tables) (c : Cursor) → Whole t c → (w : Maybe Row) → Shows t c w → w ≡ rowIn (entryOn t c)
+pub shows-row : (t : Tables) (c : Cursor) → Whole t c → (w : Maybe Row) → Shows t c w → w ≡ rowIn (entryOn t c)
 shows-row t Nowhere h none s = refl
 shows-row t Nowhere h (some w) s = absurd s
 shows-row t (On p) h none s = absurd s
@@ -80,23 +80,14 @@ abbrev entryFor : ℕ → List Entry → Maybe (List ℕ) → Maybe Entry
 entryFor s es none = none
 entryFor s es (some k) = newest k s es
 
-pub record Reached (t : Tables) (s : ℕ) (k : Maybe (List ℕ)) (r : Moved) : Type 0 where
-  pub accepted : refusalOf r ≡ 0
-  pub within : CursorIn (t .first) (t .second) (cursorOf r)
-  pub entry : entryOn t (cursorOf r) ≡ entryFor s (entriesOf t) k
+pub record Reached (t : Tables) (s : ℕ) (k : Maybe (List ℕ)) (a : MovedIs) : Type 0 where
+  pub accepted : a .refusal ≡ 0
+  pub within : CursorIn (t .first) (t .second) (a .cursor)
+  pub entry : entryOn t (a .cursor) ≡ entryFor s (entriesOf t) k
 
-reached : (t : Tables) (s : ℕ) (k : Maybe (List ℕ)) (r : Moved) → LeadsTo (t .first) (t .second) s k r → Reached t s k r
-reached t s none (To Nowhere) h = record { accepted = refl; within = tt; entry = refl }
-reached t s none (To (On p)) h = absurd h
-reached t s none (Refused q c) h = absurd h
-reached t s (some k) (To Nowhere) h = absurd h
-reached t s (some k) (To (On p)) h = record { accepted = refl; within = h .inside; entry = sym (h .newest-is) }
-reached t s (some k) (Refused q c) h = absurd h
-
--- a refused one hands back the cursor
-stayed : (q : is.Refusal) (c : Cursor) (r : Moved) → RefusedWith q c r → (refusalOf r ≡ numberOf q) × (cursorOf r ≡ c)
-stayed q c (To d) h = absurd h
-stayed q c (Refused p d) (e, f) = (ap numberOf e, f)
+pub reached : (t : Tables) (s : ℕ) (k : Maybe (List ℕ)) (a : MovedIs) → LeadsTo (t .first) (t .second) s k a → Reached t s k a
+reached t s none a e = rw e (record { accepted = refl; within = tt; entry = refl })
+reached t s (some k) a (p, e, h) = rw e (record { accepted = refl; within = h .inside; entry = sym (h .newest-is) })
 
 -- ---- two pairs
 
@@ -115,8 +106,8 @@ module _ (t : Tables) (c : Cursor) (u : Tables) (d : Cursor) (b : Together t c u
     (x : Moves v (t .first) (t .second) s c r) (y : Moves v (u .first) (u .second) s d q) where
   -- both are refused alike, or lead to equal entries
   pub record Same : Type 0 where
-    pub refusal : refusalOf r ≡ refusalOf q
-    pub together : Together t (cursorOf r) u (cursorOf q)
+    pub refusal : movedAs r .refusal ≡ movedAs q .refusal
+    pub together : Together t (movedAs r .cursor) u (movedAs q .cursor)
 
   targets : target v s (startKey (t .first) (t .second) c) (entriesOf t) ≡ target v s (startKey (u .first) (u .second) d) (entriesOf u)
   targets = rw (start-key t c, start-key u d, b .same) (same-target v s (keyIn (entryOn u d)) (entriesOf t) (entriesOf u) (a .agree) (a .single))
@@ -129,11 +120,11 @@ module _ (t : Tables) (c : Cursor) (u : Tables) (d : Cursor) (b : Together t c u
   same-move = go (askedOf s (keyGiven v)) (asked-whole t c (b .left) s (keyGiven v)) (asked-whole u d (b .right) s (keyGiven v))
     where
       go : (w : Answer {0} Unit) → asked (t .first) (t .second) s c (keyGiven v) ≡ w → asked (u .first) (u .second) s d (keyGiven v) ≡ w → Same
-      go (refused o) e f = let (i, j) = stayed o c r (x .refused o e) in let (k, l) = stayed o d q (y .refused o f) in record { refusal = i ∙ sym k; together = rw (j, l) b }
+      go (refused o) e f = let i = x .refused o e in let j = y .refused o f in record { refusal = rw (i, j); together = rw (i, j) b }
       go (given n) e f =
           let k = target v s (startKey (u .first) (u .second) d) (entriesOf u) in
-          let m = reached t s k r (rw targets at (x .rule e (b .left .first) (b .left .second))) in
-          let n = reached u s k q (y .rule f (b .right .first) (b .right .second)) in record {
+          let m = reached t s k (movedAs r) (rw targets at (x .rule e (b .left .first) (b .left .second))) in
+          let n = reached u s k (movedAs q) (y .rule f (b .right .first) (b .right .second)) in record {
             refusal = m .accepted ∙ sym (n .accepted);
             together = record {
               left = record { first = b .left .first; second = b .left .second; within = m .within };
@@ -158,12 +149,12 @@ entry-grown t u (On p) h a b = ap {B = Maybe Entry} some (entry-stays (t .first)
 -- ---- any number of moves
 
 -- one run: what a move hands back, refused or not, is in the tables
-moved-within : (t : Tables) (c : Cursor) → Whole t c → (s : ℕ) (v : Move) (r : Moved) → Moves v (t .first) (t .second) s c r → CursorIn (t .first) (t .second) (cursorOf r)
+moved-within : (t : Tables) (c : Cursor) → Whole t c → (s : ℕ) (v : Move) (r : Moved) → Moves v (t .first) (t .second) s c r → CursorIn (t .first) (t .second) (movedAs r .cursor)
 moved-within t c h s v r x = go (asked (t .first) (t .second) s c (keyGiven v)) refl
   where
-    go : (w : Answer {0} Unit) → asked (t .first) (t .second) s c (keyGiven v) ≡ w → CursorIn (t .first) (t .second) (cursorOf r)
-    go (refused o) e = rw (stayed o c r (x .refused o e) .1) (h .within)
-    go (given n) e = reached t s (target v s (startKey (t .first) (t .second) c) (entriesOf t)) r (x .rule e (h .first) (h .second)) .within
+    go : (w : Answer {0} Unit) → asked (t .first) (t .second) s c (keyGiven v) ≡ w → CursorIn (t .first) (t .second) (movedAs r .cursor)
+    go (refused o) e = rw (x .refused o e) (h .within)
+    go (given n) e = reached t s (target v s (startKey (t .first) (t .second) c) (entriesOf t)) (movedAs r) (x .rule e (h .first) (h .second)) .within
 
 pub run-whole : {s : ℕ} {t : Tables} {c : Cursor} {ms : List Moment} → Run s t c ms → Whole t c
 run-whole (begun {t = t} a b) = record { first = begun-sound (t .first) a .0; second = begun-sound (t .second) b .0; within = tt }
@@ -184,11 +175,11 @@ in-step s (begun a b) (moved u v r w n e f x y) l = absurd l
 in-step s (moved u v r w m e f x y) (begun a b) l = absurd l
 in-step s (moved {t = t} {c = c} {ms = ms} t′ v r w m a b x y) (moved {t = u} {c = d} {ms = ns} u′ v′ q z n e f i j) (same, alike, rest) = after (in-step s m n rest)
   where
-    after : Together t c u d × (seenIn ms ≡ seenIn ns) → Together t′ (cursorOf r) u′ (cursorOf q) × ((record { refusal = refusalOf r; row = w } ∷ seenIn ms) ≡ (record { refusal = refusalOf q; row = z } ∷ seenIn ns))
+    after : Together t c u d × (seenIn ms ≡ seenIn ns) → Together t′ (movedAs r .cursor) u′ (movedAs q .cursor) × ((record { refusal = movedAs r .refusal; row = w } ∷ seenIn ms) ≡ (record { refusal = movedAs q .refusal; row = z } ∷ seenIn ns))
     after (k, h) =
         let g = same-move t′ c u′ d (record {
           left = whole-grown t t′ c (k .left) a b;
           right = whole-grown u u′ d (k .right) e f;
           same = entry-grown t t′ c (k .left) a b ∙ k .same ∙ sym (entry-grown u u′ d (k .right) e f);
         }) s alike v r q x (rw same i) in
-        (g .together, rw (g .refusal, same-shown t′ (cursorOf r) u′ (cursorOf q) (g .together) w z y j, h))
+        (g .together, rw (g .refusal, same-shown t′ (movedAs r .cursor) u′ (movedAs q .cursor) (g .together) w z y j, h))

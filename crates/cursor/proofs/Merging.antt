@@ -1,7 +1,7 @@
 -- The answers of two tables folded into one.
 use Prim.Native.Nat.{ℕ, _≤_, _<_}
 use native.Mathlib.Omega.{arith}
-use mathlib.Core.Path.{_≡_, refl, subst, _∙_}
+use mathlib.Core.Path.{_≡_, refl, sym, subst, _∙_}
 use mathlib.Core.Logic.{inl, inr}
 use mathlib.Core.List.{List}
 use mathlib.Core.Bool.{Bool, true, false, false≢true}
@@ -11,16 +11,19 @@ use Rattle.rule.specs.Lists.{cond, Maybe, none, some, All}
 use Rattle.rule.specs.Order.{isLess}
 use Rattle.rule.specs.Entries.{Entry}
 use Rattle.rule.specs.Rows.{newest}
-use Rattle.rule.specs.Nearest.{HasKey, Least, sooner}
+use Rattle.rule.specs.Nearest.{Least, sooner}
 use Rattle.rule.proofs.Lists.{all-nil}
 use Rattle.rule.proofs.Order.{neither-less}
 use Rattle.rule.proofs.Rows.{Newest as NewestOf, newest-is, newest-append, latest, fits-true}
 use Rattle.rule.proofs.Nearest.{least-append}
 use Rattle.image.specs.Sound.{Sound, held}
 use Rattle.image.specs.EntryMoves.{on}
-use Rattle.image.specs.Cuts.{Cut, cmpOf, admits, NearLands}
-use Rattle.image.specs.Newest.{NewestLands}
+use Rattle.image.specs.Nodes.{entryOf}
+use Rattle.image.specs.Refusals.{refused, damaged}
+use Rattle.image.specs.Cuts.{Cut, cmpOf, admits, nearest as nearestIn, NearLands}
+use Rattle.image.specs.Newest.{newestAt as newestIn, NewestLands}
 use Rattle.image.proofs.Nearest.{way}
+use Rattle.image.proofs.Landing.{key-read}
 use Rattle.image.proofs.Views.{key-shown}
 use Rattle.table.specs.Questions.{Nears, TellsNewest}
 use Rattle.table.specs.declared.questions.Hit.{Hit}
@@ -29,7 +32,7 @@ use Rattle.table.specs.declared.questions.NewestAt.{NewestAt}
 use Rattle.table.specs.declared.questions.NewestAt.the-variants as newestAt
 use Rattle.table.proofs.Laws.{number-told}
 use Rattle.cursor.specs.Places.{imageOf, earlier, all, place, entryAt, keyAt, numberAt, PlaceIn}
-use Rattle.cursor.specs.Merging.{metAt, metIn, nearerOf, soonerOf, MetIn, MeetingIn, NearestOver, NearestIs, versionIn, newerOf, kindOf, VersionIn, NewestOver, NewestIs}
+use Rattle.cursor.specs.Merging.{metAt, metIn, nearerOf, soonerOf, HasNode, MeetingIn, NearDamaged, NearestOver, NearestIs, versionIn, newerOf, kindOf, VersionIn, NewestDamaged, NewestOver, NewestIs}
 use Rattle.cursor.specs.declared.places.Side.{Side}
 use Rattle.cursor.specs.declared.places.Side.the-variants.{First, Second}
 use Rattle.cursor.specs.declared.places.Place.{Place}
@@ -58,67 +61,86 @@ module _ (f g : List ℕ) (x : Sound f) (y : Sound g) where
 
 module _ (f g : List ℕ) (c : Cut) (t : List ℕ) where
   -- a key met in one table
-  met-flags : (side : Side) (i : ℕ) {k : List ℕ} → HasKey k (held (imageOf side f g)) → MetIn f g k (metAt side i)
-  met-flags First i h = record { in-first = λ _. h; in-second = λ z. absurd (false≢true z) }
-  met-flags Second i h = record { in-first = λ z. absurd (false≢true z); in-second = λ _. h }
-
   met-lands : (side : Side) (i : ℕ) → NearLands (imageOf side f g) c t (on i) → MeetingIn f g c t (metAt side i)
-  met-lands First i (n, r, a) = record { reads = record { inside = n; readable = r }; admitted = a; somewhere = inl refl }
-  met-lands Second i (n, r, a) = record { reads = record { inside = n; readable = r }; admitted = a; somewhere = inr refl }
+  met-lands First i (n, r, a) = record {
+    reads = record { inside = n; readable = r };
+    admitted = a;
+    somewhere = inl refl;
+    in-first = λ _. record { node = i; inside = n; readable = r; key-is = refl };
+    in-second = λ z. absurd (false≢true z);
+  }
+  met-lands Second i (n, r, a) = record {
+    reads = record { inside = n; readable = r };
+    admitted = a;
+    somewhere = inr refl;
+    in-first = λ z. absurd (false≢true z);
+    in-second = λ _. record { node = i; inside = n; readable = r; key-is = refl };
+  }
 
   met-place : (side : Side) (i : ℕ) → place side i ≡ metAt side i .place
   met-place First i = refl
   met-place Second i = refl
 
+  near-hurt : (side : Side) → nearestIn (imageOf side f g) c t ≡ refused damaged → NearDamaged f g c t
+  near-hurt First e = inl e
+  near-hurt Second e = inr e
+
   -- one table's answer
-  met-over : (side : Side) {r : Nearest} (a : Hit) → Nears (imageOf side f g) c t a → r ≡ metIn side a → NearestOver (held (imageOf side f g)) f g c t r
-  met-over side a n e = rw e (go a n)
-    where
-      go : (a : Hit) → Nears (imageOf side f g) c t a → NearestOver (held (imageOf side f g)) f g c t (metIn side a)
-      go (hit.At i) n = record {
-        rule = λ x y. subst (λ (p : Place). Least (cmpOf c) (admits c t) (held (imageOf side f g)) (some (keyAt f g p)) × MetIn f g (keyAt f g p) (metAt side i)) (met-place side i)
-            (let l : Least (cmpOf c) (admits c t) (held (imageOf side f g)) (some (keyAt f g (place side i))) = rw (key-told f g x y (place side i) (n .lands .0)) (n .rule (sound-of f g x y side) .1) in (l, met-flags side i (l .0)));
-        lands = met-lands side i (n .lands);
-      }
-      go hit.Nothing n = record { rule = λ x y. n .rule (sound-of f g x y side); lands = tt }
-      go hit.Damaged n = record { rule = λ x y. n .rule (sound-of f g x y side); lands = tt }
+  met-over : (side : Side) (a : Hit) → Nears (imageOf side f g) c t a → NearestOver (held (imageOf side f g)) f g c t (metIn side a)
+  met-over side (hit.At i) n = record {
+    rule = λ x y. subst (λ (p : Place). Least (cmpOf c) (admits c t) (held (imageOf side f g)) (some (keyAt f g p))) (met-place side i)
+        (rw (key-told f g x y (place side i) (n .lands .0)) (n .rule (sound-of f g x y side) .1));
+    lands = met-lands side i (n .lands);
+  }
+  met-over side hit.Nothing n = record { rule = λ x y. n .rule (sound-of f g x y side); lands = tt }
+  met-over side hit.Damaged n = record { rule = λ x y. n .rule (sound-of f g x y side); lands = near-hurt side (sym (n .exact)) }
 
   join : (a b : Maybe (List ℕ)) → Least (cmpOf c) (admits c t) (held f) a → Least (cmpOf c) (admits c t) (held g) b → Least (cmpOf c) (admits c t) (all f g) (sooner (cmpOf c) a b)
   join a b = least-append (cmpOf c) (way c) (admits c t) (held f) (held g) a b
 
-  nearer-over : (x y : Meeting) → NearestOver (held f) f g c t (nearest.At x) → NearestOver (held g) f g c t (nearest.At y) → NearestIs f g c t (nearest.At (nearerOf (keyAt f g) c x y))
-  nearer-over x y a b = go (isLess (cmpOf c l k)) refl (isLess (cmpOf c k l)) refl (λ u v. join (some k) (some l) (a .rule u v .0) (b .rule u v .0))
+  nearer-over : (i j : ℕ) → NearestOver (held f) f g c t (nearest.At (metAt First i)) → NearestOver (held g) f g c t (nearest.At (metAt Second j)) → NearestIs f g c t (nearest.At (nearerOf (keyAt f g) c (metAt First i) (metAt Second j)))
+  nearer-over i j a b = go (isLess (cmpOf c l k)) refl (isLess (cmpOf c k l)) refl (λ u v. join (some k) (some l) (a .rule u v) (b .rule u v))
     where
       k : List ℕ
-      k = keyAt f g (x .place)
+      k = keyAt f g (place First i)
 
       l : List ℕ
-      l = keyAt f g (y .place)
+      l = keyAt f g (place Second j)
+
+      -- the key of both
+      same : k ≡ l → entryOf g j .key ≡ entryOf f i .key
+      same e = sym (key-read g j (b .lands .reads .readable)) ∙ sym e ∙ key-read f i (a .lands .reads .readable)
 
       go : (p : Bool) → isLess (cmpOf c l k) ≡ p → (q : Bool) → isLess (cmpOf c k l) ≡ q → (Sound f → Sound g → Least (cmpOf c) (admits c t) (all f g) (some (cond p l k)))
-          → NearestIs f g c t (nearest.At (cond p y (cond q x (record { place = x .place; first = true; second = true }))))
-      go true e q d h = record { rule = λ u v. (h u v, b .rule u v .1); lands = b .lands }
-      go false e true d h = record { rule = λ u v. (h u v, a .rule u v .1); lands = a .lands }
+          → NearestIs f g c t (nearest.At (cond p (metAt Second j) (cond q (metAt First i) (record { place = place First i; first = true; second = true }))))
+      go true e q d h = record { rule = h; lands = b .lands }
+      go false e true d h = record { rule = h; lands = a .lands }
       go false e false d h = record {
-        rule = λ u v. (h u v, record { in-first = λ _. a .rule u v .0 .0; in-second = λ _. rw (neither-less (cmpOf c) (way c) k l d e) (b .rule u v .0 .0) });
-        lands = record { reads = a .lands .reads; admitted = a .lands .admitted; somewhere = inl refl };
+        rule = h;
+        lands = record {
+          reads = a .lands .reads;
+          admitted = a .lands .admitted;
+          somewhere = inl refl;
+          in-first = λ _. a .lands .in-first refl;
+          in-second = λ _. subst (HasNode g) (same (neither-less (cmpOf c) (way c) k l d e)) (b .lands .in-second refl);
+        };
       }
 
   -- the sooner of both
-  sooner-over : {r : Nearest} (a b : Nearest) → NearestOver (held f) f g c t a → NearestOver (held g) f g c t b → r ≡ soonerOf (keyAt f g) c a b → NearestIs f g c t r
-  sooner-over a b x y e = rw e (go a b x y)
+  sooner-over : (a b : Hit) → Nears f c t a → Nears g c t b → NearestIs f g c t (soonerOf (keyAt f g) c (metIn First a) (metIn Second b))
+  sooner-over a b m n = go a b (met-over First a m) (met-over Second b n)
     where
-      go : (a b : Nearest) → NearestOver (held f) f g c t a → NearestOver (held g) f g c t b → NearestIs f g c t (soonerOf (keyAt f g) c a b)
-      go nearest.Damaged b x y = record { rule = λ u v. absurd (x .rule u v); lands = tt }
-      go nearest.Nothing nearest.Damaged x y = record { rule = λ u v. absurd (y .rule u v); lands = tt }
-      go nearest.Nothing nearest.Nothing x y = record { rule = λ u v. join none none (x .rule u v) (y .rule u v); lands = tt }
-      go nearest.Nothing (nearest.At m) x y = record { rule = λ u v. (join none (some (keyAt f g (m .place))) (x .rule u v) (y .rule u v .0), y .rule u v .1); lands = y .lands }
-      go (nearest.At m) nearest.Damaged x y = record { rule = λ u v. absurd (y .rule u v); lands = tt }
-      go (nearest.At m) nearest.Nothing x y = record { rule = λ u v. (join (some (keyAt f g (m .place))) none (x .rule u v .0) (y .rule u v), x .rule u v .1); lands = x .lands }
-      go (nearest.At m) (nearest.At n) x y = nearer-over m n x y
+      go : (a b : Hit) → NearestOver (held f) f g c t (metIn First a) → NearestOver (held g) f g c t (metIn Second b) → NearestIs f g c t (soonerOf (keyAt f g) c (metIn First a) (metIn Second b))
+      go hit.Damaged b x y = record { rule = λ u v. absurd (x .rule u v); lands = x .lands }
+      go hit.Nothing hit.Damaged x y = record { rule = λ u v. absurd (y .rule u v); lands = y .lands }
+      go hit.Nothing hit.Nothing x y = record { rule = λ u v. join none none (x .rule u v) (y .rule u v); lands = tt }
+      go hit.Nothing (hit.At j) x y = record { rule = λ u v. join none (some (keyAt f g (place Second j))) (x .rule u v) (y .rule u v); lands = y .lands }
+      go (hit.At i) hit.Damaged x y = record { rule = λ u v. absurd (y .rule u v); lands = y .lands }
+      go (hit.At i) hit.Nothing x y = record { rule = λ u v. join (some (keyAt f g (place First i))) none (x .rule u v) (y .rule u v); lands = x .lands }
+      go (hit.At i) (hit.At j) x y = nearer-over i j x y
 
   pub nearest-both : {p q r : Nearest} (a b : Hit) → Nears f c t a → p ≡ metIn First a → Nears g c t b → q ≡ metIn Second b → r ≡ soonerOf (keyAt f g) c p q → NearestIs f g c t r
-  nearest-both {p} {q} a b x d y e h = sooner-over p q (met-over First a x d) (met-over Second b y e) h
+  nearest-both a b x d y e h = rw (h, d, e) (sooner-over a b x y)
 
 -- the nearer by cases
 module _ (key : Place → List ℕ) (c : Cut) (x y : Meeting) {k l : List ℕ} {b : Bool} (ek : k ≡ key (x .place)) (el : l ≡ key (y .place)) (eb : b ≡ isLess (cmpOf c l k)) where
@@ -161,6 +183,10 @@ module _ (f g : List ℕ) (k : List ℕ) (s : ℕ) where
   version-lands : (side : Side) (i : ℕ) (b : Bool) → NewestLands (imageOf side f g) k s (kindOf b) i → VersionIn f g k s (record { place = place side i; value = b })
   version-lands side i b n = record { reads = record { inside = n .node; readable = n .readable }; key-is = n .key-is; number-most = n .number-most; kind-is = n .kind-is }
 
+  newest-hurt : (side : Side) → newestIn (imageOf side f g) k s ≡ refused damaged → NewestDamaged f g k s
+  newest-hurt First e = inl e
+  newest-hurt Second e = inr e
+
   -- one table's answer
   version-over : (side : Side) {r : Newest} (a : NewestAt) → TellsNewest (imageOf side f g) k s a → r ≡ versionIn side a → NewestOver (held (imageOf side f g)) f g k s r
   version-over side a n e = rw e (go a n)
@@ -169,7 +195,7 @@ module _ (f g : List ℕ) (k : List ℕ) (s : ℕ) where
       go (newestAt.Value i) n = record { rule = λ x y. let o = n .rule (sound-of f g x y side) in (o .newest-is, o .kind-is); lands = version-lands side i true (n .lands) }
       go (newestAt.Deletion i) n = record { rule = λ x y. let o = n .rule (sound-of f g x y side) in (o .newest-is, o .kind-is); lands = version-lands side i false (n .lands) }
       go newestAt.Absent n = record { rule = λ x y. n .rule (sound-of f g x y side); lands = tt }
-      go newestAt.Damaged n = record { rule = λ x y. n .rule (sound-of f g x y side); lands = tt }
+      go newestAt.Damaged n = record { rule = λ x y. n .rule (sound-of f g x y side); lands = newest-hurt side (sym (n .exact)) }
 
   together : (a b : Maybe Entry) → newest k s (held f) ≡ a → newest k s (held g) ≡ b → newest k s (all f g) ≡ latest a b
   together a b x y = newest-append k s (held f) (held g) ∙ rw (x, y)
@@ -203,14 +229,14 @@ module _ (f g : List ℕ) (k : List ℕ) (s : ℕ) where
   newer-over a b x y p q e = rw e (go a b x y p q)
     where
       go : (a b : Newest) → NewestOver (held f) f g k s a → NewestOver (held g) f g k s b → OnSide First a → OnSide Second b → NewestIs f g k s (newerOf (numberAt f g) a b)
-      go newer.Damaged b x y p q = record { over = record { rule = λ u v. absurd (x .rule u v); lands = tt }; first = λ u v. tt }
-      go newer.Nothing newer.Damaged x y p q = record { over = record { rule = λ u v. absurd (y .rule u v); lands = tt }; first = λ u v. tt }
+      go newer.Damaged b x y p q = record { over = record { rule = λ u v. absurd (x .rule u v); lands = x .lands }; first = λ u v. tt }
+      go newer.Nothing newer.Damaged x y p q = record { over = record { rule = λ u v. absurd (y .rule u v); lands = y .lands }; first = λ u v. tt }
       go newer.Nothing newer.Nothing x y p q = record { over = record { rule = λ u v. together none none (x .rule u v) (y .rule u v); lands = tt }; first = λ u v. tt }
       go newer.Nothing (newer.At w) x y p q = record {
         over = record { rule = λ u v. (together none (some (entryAt f g (w .place))) (x .rule u v) (y .rule u v .0), y .rule u v .1); lands = y .lands };
         first = λ u v. before-second f _ (w .place .table) q (λ d i z. absurd (known k s (held f) none (x .rule u v) d i (fits-true k s d z)));
       }
-      go (newer.At w) newer.Damaged x y p q = record { over = record { rule = λ u v. absurd (y .rule u v); lands = tt }; first = λ u v. tt }
+      go (newer.At w) newer.Damaged x y p q = record { over = record { rule = λ u v. absurd (y .rule u v); lands = y .lands }; first = λ u v. tt }
       go (newer.At w) newer.Nothing x y p q = record {
         over = record { rule = λ u v. (together (some (entryAt f g (w .place))) none (x .rule u v .0) (y .rule u v), x .rule u v .1); lands = x .lands };
         first = λ u v. rw p (all-nil _);

@@ -1,7 +1,7 @@
 -- The moves of the visible cursor: their tests, and where their walks lead.
 use Prim.Native.Nat.{ℕ, _≤_, _<_}
 use mathlib.Core.Path.{_≡_, refl, sym, ap, subst, _∙_}
-use mathlib.Core.Logic.{⊎-elim}
+use mathlib.Core.Logic.{⊎-elim, inl, inr}
 use mathlib.Core.List.{List, []}
 use mathlib.Core.Bool.{Bool, true, false, not, true≢false}
 use lib.ListN.{length}
@@ -18,7 +18,7 @@ use Rattle.image.specs.EntryMoves.{on}
 use Rattle.image.specs.Cuts.{Cut, admits}
 use Rattle.image.specs.Cuts as cut
 use Rattle.image.specs.Refusals as is
-use Rattle.image.specs.Refusals.{Answer, given, badImage, noNode}
+use Rattle.image.specs.Refusals.{Answer, given, badImage, noNode, numberOf}
 use Rattle.image.proofs.Refusals.{refused-given, demand-given}
 use Rattle.image.proofs.Views.{view-accepted}
 use Rattle.image.proofs.Landing.{key-read}
@@ -31,8 +31,8 @@ use Rattle.table.specs.declared.memtable_iter.CursorTest.the-variants as test
 use Rattle.table.proofs.Laws.{in-table, first-behind, seek-behind, next-behind, next-nowhere, previous-behind}
 use Rattle.cursor.proofs.Merging.{sound-of, key-told}
 use Rattle.cursor.specs.Places.{imageOf, all, entryAt, keyAt, CursorIn, HeadersHold, inside, refusalAt}
-use Rattle.cursor.specs.Walks.{bestOf, Ends, FoundIn, Walked}
-use Rattle.cursor.specs.Moves.{asked, testAs, keyGiven, startKey, movedOf, LeadsTo, Ahead, LandsIn, MovedIn, Went, WentFrom, Moves}
+use Rattle.cursor.specs.Walks.{bestOf, LandsOn, Ends, FoundIn, Walked}
+use Rattle.cursor.specs.Moves.{asked, testAs, keyGiven, startKey, MovedIs, movedAs, movedOf, LeadsTo, Ahead, Lands, AtMost, LandsIn, MovedIn, Went, WentFrom, Moves}
 use Rattle.cursor.specs.declared.places.Side.{Side}
 use Rattle.cursor.specs.declared.places.Side.the-variants.{First, Second}
 use Rattle.cursor.specs.declared.places.Place.{Place}
@@ -112,42 +112,44 @@ module _ (f g : List ℕ) (s : ℕ) (c : Cursor) (t : List ℕ) (e : asked f g s
 pub went : (f g : List ℕ) (s : ℕ) (c : Cut) (t : List ℕ) (at : Cursor) (a : Found) {r : Moved} → Walked f g s c t a → r ≡ movedOf a at → Went f g s c t at r
 went f g s c t at a k e = rw e (record { rule = λ x y. same (bestOf f g s c t) a (k .rule x y); lands = within a (k .lands) })
   where
-    same : (n : Maybe (List ℕ)) (a : Found) → Ends f g s n a → LeadsTo f g s n (movedOf a at)
-    same none (found.At p) h = h
-    same none found.Nothing h = h
-    same none found.Damaged h = h
-    same (some l) (found.At p) h = h
-    same (some l) found.Nothing h = h
-    same (some l) found.Damaged h = h
+    same : (n : Maybe (List ℕ)) (a : Found) → Ends f g s n a → LeadsTo f g s n (movedAs (movedOf a at))
+    same none (found.At p) h = absurd h
+    same none found.Nothing h = refl
+    same none found.Damaged h = absurd h
+    same (some l) (found.At p) h = (p, refl, h)
+    same (some l) found.Nothing h = absurd h
+    same (some l) found.Damaged h = absurd h
 
-    within : (a : Found) → FoundIn f g s c t a → MovedIn f g s c t at (movedOf a at)
-    within (found.At p) h = h
-    within found.Nothing h = h
-    within found.Damaged h = (refl, refl)
+    within : (a : Found) → FoundIn f g s c t a → MovedIn f g s c t at (movedAs (movedOf a at))
+    within (found.At p) h = inl (refl, h)
+    within found.Nothing h = inl (refl, tt)
+    within found.Damaged h = inr refl
 
 module _ (f g : List ℕ) (s : ℕ) (c : Cut) (p : Place) (at : Cursor) {n : ℕ} (e : n ≡ refusalAt f g p) where
   -- on sound tables the node at a cursor is read
   pub from-hurt : (n ≡ 0 → ⊥) → WentFrom f g s c p at (Refused refusal.Damaged at)
-  from-hurt h = record { rule = λ x y i. absurd (h (e ∙ view-accepted (imageOf (p .table) f g) (sound-of f g x y (p .table)) (p .node) i)); lands = (refl, refl) }
+  from-hurt h = record { rule = λ x y i. absurd (h (e ∙ view-accepted (imageOf (p .table) f g) (sound-of f g x y (p .table)) (p .node) i)); lands = inr refl }
 
   pub from-went : n ≡ 0 → {k : List ℕ} → k ≡ keyAt f g p → (r : Moved) → Went f g s c k at r → WentFrom f g s c p at r
   from-went z d r w = record {
-    rule = λ x y i. subst (λ (k : List ℕ). LeadsTo f g s (bestOf f g s c k) r) (d ∙ key-told f g x y p i) (w .rule x y);
-    lands = subst (λ (k : List ℕ). MovedIn f g s c k at r) (d ∙ key-read (imageOf (p .table) f g) (p .node) (sym e ∙ z)) (w .lands);
+    rule = λ x y i. subst (λ (k : List ℕ). LeadsTo f g s (bestOf f g s c k) (movedAs r)) (d ∙ key-told f g x y p i) (w .rule x y);
+    lands = subst (λ (k : List ℕ). MovedIn f g s c k at (movedAs r)) (d ∙ key-read (imageOf (p .table) f g) (p .node) (sym e ∙ z)) (w .lands);
   }
 
 -- ---- the moves
 
 -- what is behind the cut of a move lies onward
-lands-in : (v : Move) (f g : List ℕ) (s : ℕ) (d : Cut) (k : List ℕ) (c : Cursor) → ((l : List ℕ) → admits d k l ≡ true → Ahead v (startKey f g c) l) → (r : Moved) → MovedIn f g s d k c r → LandsIn v f g s c r
-lands-in v f g s d k c a (To Nowhere) m = tt
-lands-in v f g s d k c a (To (On p)) m = record { inside = m .reads .inside; readable = m .reads .readable; value-is = m .value-is; number-most = m .number-most; ahead = a (entryAt f g p .key) (m .admitted) }
-lands-in v f g s d k c a (Refused q e) m = m
+lands-in : (v : Move) (f g : List ℕ) (s : ℕ) (d : Cut) (k : List ℕ) (c : Cursor) → ((l : List ℕ) → admits d k l ≡ true → Ahead v (startKey f g c) l) → (a : MovedIs) → MovedIn f g s d k c a → LandsIn v f g s c a
+lands-in v f g s d k c h a m = ⊎-elim (λ w. inl (w .0, ends (a .cursor) (w .1))) inr m
+  where
+    ends : (e : Cursor) → AtMost (LandsOn f g s d k) e → AtMost (Lands v f g s c) e
+    ends Nowhere m = tt
+    ends (On p) m = record { inside = m .reads .inside; readable = m .reads .readable; value-is = m .value-is; number-most = m .number-most; ahead = h (entryAt f g p .key) (m .admitted) }
 
 module _ (v : Move) (f g : List ℕ) (s : ℕ) (c : Cursor) {t : MoveTest} (e : testAs t ≡ asked f g s c (keyGiven v)) where
   pub move-refused : {q : Refusal} → t ≡ Failed q → Moves v f g s c (Refused q c)
   move-refused {q} h = record {
-    refused = λ p d. (which (sym (ap testAs h) ∙ e ∙ d), refl);
+    refused = λ p d. ap (λ (o : is.Refusal). record { refusal = numberOf o; cursor = c }) (which (sym (ap testAs h) ∙ e ∙ d));
     rule = λ d. absurd (refused-given (sym (ap testAs h) ∙ e ∙ d));
     lands = λ d. absurd (refused-given (sym (ap testAs h) ∙ e ∙ d));
   }
@@ -157,7 +159,7 @@ module _ (v : Move) (f g : List ℕ) (s : ℕ) (c : Cursor) {t : MoveTest} (e : 
 
   module _ (h : t ≡ Passed) where
     -- a move that leads to its target
-    leads : (r : Moved) → (Sound f → Sound g → CursorIn f g c → LeadsTo f g s (target v s (startKey f g c) (all f g)) r) → LandsIn v f g s c r → Moves v f g s c r
+    leads : (r : Moved) → (Sound f → Sound g → CursorIn f g c → LeadsTo f g s (target v s (startKey f g c) (all f g)) (movedAs r)) → LandsIn v f g s c (movedAs r) → Moves v f g s c r
     leads r a b = record {
       refused = λ q d. absurd (refused-given (sym d ∙ sym e ∙ ap testAs h));
       rule = λ d x y. a x y (asked-inside f g s c (keyGiven v) d);
@@ -165,10 +167,10 @@ module _ (v : Move) (f g : List ℕ) (s : ℕ) (c : Cursor) {t : MoveTest} (e : 
     }
 
     pub move-went : (r : Moved) (d : Cut) (k : List ℕ) → target v s (startKey f g c) (all f g) ≡ bestOf f g s d k → ((l : List ℕ) → admits d k l ≡ true → Ahead v (startKey f g c) l) → Went f g s d k c r → Moves v f g s c r
-    move-went r d k q a w = leads r (λ x y _. subst (λ (n : Maybe (List ℕ)). LeadsTo f g s n r) (sym q) (w .rule x y)) (lands-in v f g s d k c a r (w .lands))
+    move-went r d k q a w = leads r (λ x y _. subst (λ (n : Maybe (List ℕ)). LeadsTo f g s n (movedAs r)) (sym q) (w .rule x y)) (lands-in v f g s d k c a (movedAs r) (w .lands))
 
     pub move-from : (r : Moved) (d : Cut) {p : Place} → c ≡ On p → target v s (some (entryAt f g p .key)) (all f g) ≡ bestOf f g s d (entryAt f g p .key) → ((l : List ℕ) → admits d (entryAt f g p .key) l ≡ true → Ahead v (some (entryAt f g p .key)) l) → WentFrom f g s d p (On p) r → Moves v f g s c r
-    move-from r d {p} z q a w = leads r (λ x y i. subst (λ (n : Maybe (List ℕ)). LeadsTo f g s n r) (sym q ∙ sym (ap (λ (o : Cursor). target v s (startKey f g o) (all f g)) z)) (w .rule x y (rw z at i))) (subst (λ (o : Cursor). LandsIn v f g s o r) (sym z) (lands-in v f g s d (entryAt f g p .key) (On p) a r (w .lands)))
+    move-from r d {p} z q a w = leads r (λ x y i. subst (λ (n : Maybe (List ℕ)). LeadsTo f g s n (movedAs r)) (sym q ∙ sym (ap (λ (o : Cursor). target v s (startKey f g o) (all f g)) z)) (w .rule x y (rw z at i))) (subst (λ (o : Cursor). LandsIn v f g s o (movedAs r)) (sym z) (lands-in v f g s d (entryAt f g p .key) (On p) a (movedAs r) (w .lands)))
 
 module _ (f g : List ℕ) (s : ℕ) (c : Cursor) {t : MoveTest} (h : t ≡ Passed) where
   pub move-first : testAs t ≡ asked f g s c [] → {k : List ℕ} {r : Moved} → Went f g s cut.all k c r → Moves rule.first f g s c r
@@ -189,4 +191,4 @@ module _ (f g : List ℕ) (s : ℕ) (c : Cursor) {t : MoveTest} (h : t ≡ Passe
 
     -- from nowhere there is no previous
     pub move-prev-nowhere : c ≡ Nowhere → Moves rule.previous f g s c (To Nowhere)
-    move-prev-nowhere z = record { refused = λ q d. absurd (refused-given (sym d ∙ sym e ∙ ap testAs h)); rule = λ d x y. rw z tt; lands = λ d. tt }
+    move-prev-nowhere z = record { refused = λ q d. absurd (refused-given (sym d ∙ sym e ∙ ap testAs h)); rule = λ d x y. rw z refl; lands = λ d. inl (refl, tt) }

@@ -6,18 +6,21 @@ use mathlib.Core.Logic.{inl, inr}
 use mathlib.Core.List.{List}
 use mathlib.Core.Bool.{Bool, true, false, not}
 use lib.ListN.{length}
+use lib.Dec.{leb}
 use borrow.Author.Tests.{not-true, not-false}
 use Rattle.rule.specs.Lists.{cond}
 use Rattle.image.specs.Limits.{maxKey, maxNumber, maxNodes, levels}
 use Rattle.image.specs.Nodes.{count}
 use Rattle.image.specs.Sound.{Sound, headerHolds}
-use Rattle.image.specs.Refusals.{badImage, Answer, refused, given}
-use Rattle.image.specs.Lookup.{Looked, Lookup, get}
+use Rattle.image.specs.Search.{toStop, searched, standing}
+use Rattle.image.specs.Refusals.{badImage, badNumber, longKey, Answer, refused, given}
+use Rattle.image.specs.Lookup.{Looked, Lookup, saidAt, get}
 use Rattle.image.specs.Lookup as one
 use Rattle.image.specs.Meaning.{Tells}
+use Rattle.image.proofs.Refusals.{refused-given, demand-given, reading-given}
+use Rattle.image.proofs.Search.{searched-looks}
 use Rattle.image.proofs.Sound.{header-complete}
-use Rattle.image.proofs.Refusals.{refused-given, given-same, demand-given}
-use Rattle.image.proofs.Lookup.{get-given, get-tells}
+use Rattle.image.proofs.Lookup.{get-tells}
 use Rattle.table.specs.Memtable.{lookupAs, Gets}
 use Rattle.table.specs.declared.refusals.Refusal.{Refusal}
 use Rattle.table.specs.declared.refusals.Refusal.the-variants as refusal
@@ -25,7 +28,7 @@ use Rattle.table.specs.declared.memtable.Lookup.{Lookup as LookupHere}
 use Rattle.table.specs.declared.memtable.Lookup.the-variants as lookup
 use Rattle.table.proofs.Laws.{get-looks}
 use Rattle.cursor.specs.Places.{place}
-use Rattle.cursor.specs.Pairs.{PairLooked, pairAs, saysIn, toldBy, isSaid, answersOf, looksTaken, FewLooks, getPair, TellsPair, GetsPair}
+use Rattle.cursor.specs.Pairs.{PairLooked, pairAs, saysIn, toldBy, isSaid, answersOf, looksTaken, FewLooks, firstOrSecond, getPair, TellsPair, mostLooks, SearchLooks, PairLooks, GetsPair}
 use Rattle.cursor.specs.declared.places.Side.{Side}
 use Rattle.cursor.specs.declared.places.Side.the-variants.{First, Second}
 use Rattle.cursor.specs.declared.merging_iter.PairLookup.{PairLookup}
@@ -47,6 +50,47 @@ pub told-refused : (side : Side) (n : ℕ) {a : LookupHere} {q : Refusal} → a 
 told-refused side n h = rw h
 
 -- ---- how many looks
+
+-- the looks of a lookup are those that its search made, link by link
+pub get-searched : (xs k : List ℕ) (s : ℕ) (a : Lookup) → get xs k s ≡ given a → SearchLooks xs k s (a .looks)
+unfolding get
+get-searched xs k s a e =
+    let (_, p) = demand-given (headerHolds xs) badImage _ a e in
+    let (_, q) = demand-given (leb s maxNumber) badNumber _ a p in
+    let (_, r) = demand-given (leb (length k) maxKey) longKey _ a q in
+    let (f, i, t) = reading-given (searched xs toStop k s) _ a r in
+    let (_, _, u) = reading-given (saidAt xs k (standing f)) _ a t in
+    (f, i, same u)
+  where
+    same : {c d : Lookup} → _≡_ {A = Answer Lookup} (given c) (given d) → d .looks ≡ c .looks
+    same e = let z : _ ≡ _ = e in cc
+
+-- so they are at most n + 12
+searched-few : (xs k : List ℕ) (s n : ℕ) → SearchLooks xs k s n → n ≤ count xs + levels
+searched-few xs k s n (f, i, e) = omega (arith, e, searched-looks xs toStop k s f i)
+
+-- the looks of a lookup in a pair are those of the searches in the tables that it asked
+pub pair-searched : (f g k : List ℕ) (s : ℕ) (a : PairLooked) → getPair f g k s ≡ given a → PairLooks f g k s (a .looks)
+unfolding getPair
+pair-searched f g k s a e =
+    let (_, p) = demand-given (headerHolds f) badImage _ a e in
+    let (_, q) = demand-given (headerHolds g) badImage _ a p in go (get f k s) refl (get g k s) refl q
+  where
+    looks-of : {c : PairLooked} → _≡_ {A = Answer PairLooked} (given c) (given a) → a .looks ≡ c .looks
+    looks-of e = let z : _ ≡ _ = e in cc
+
+    by : (b : Lookup) → get f k s ≡ given b → (d : Answer Lookup) → get g k s ≡ d → (t : Bool) → isSaid (b .says) ≡ t → cond t (toldBy First 0 (given b)) (toldBy Second (b .looks) d) ≡ given a → PairLooks f g k s (a .looks)
+    by b i d j true h e = let z : a .looks ≡ b .looks = omega (arith, looks-of e) in inl (rw i h, rw z (get-searched f k s b i))
+    by b i (refused o) j false h e = absurd (refused-given e)
+    by b i (given d) j false h e = inr (rw i h, b .looks, d .looks, get-searched f k s b i, get-searched g k s d j, looks-of e)
+
+    go : (u : Answer Lookup) → get f k s ≡ u → (v : Answer Lookup) → get g k s ≡ v → firstOrSecond u v ≡ given a → PairLooks f g k s (a .looks)
+    go (refused o) i v j e = absurd (refused-given e)
+    go (given b) i v j e = by b i v j (isSaid (b .says)) refl e
+
+pair-few : (f g k : List ℕ) (s n : ℕ) → PairLooks f g k s n → n ≤ mostLooks f g k s
+pair-few f g k s n (inl (t, h)) = rw t (searched-few f k s n h)
+pair-few f g k s n (inr (t, a, b, h, i, e)) = rw t (omega (arith, e, searched-few f k s a h, searched-few g k s b i))
 
 few-of : (xs k : List ℕ) (s : ℕ) (a : Answer Lookup) → a ≡ get xs k s → looksTaken a ≤ maxNodes + levels
 few-of xs k s (refused q) e = omega arith
@@ -79,33 +123,11 @@ module _ (f g k : List ℕ) (s : ℕ) where
       go one.absent one.deleted m n t w = (_, refl, inr (t, w))
       go one.absent one.absent m n t w = (_, refl, (t, w))
 
-  -- on any tables
-  pair-looks : (c : PairLooked) → getPair f g k s ≡ given c → c .looks ≤ (count f + levels) + (count g + levels)
-  unfolding getPair
-  pair-looks c e =
-      let (_, a) = demand-given (headerHolds f) badImage _ c e in
-      let (_, b) = demand-given (headerHolds g) badImage _ c a in
-      first (get f k s) refl b
-    where
-      taken : {d : PairLooked} → _≡_ {A = Answer PairLooked} (given d) (given c) → d .looks ≡ c .looks
-      taken h = ap (λ (d : PairLooked). d .looks) (given-same h)
-
-      both : (a : Lookup) → get f k s ≡ given a → (t : Bool) (b : Answer Lookup) → get g k s ≡ b → cond t (toldBy First 0 (given a)) (toldBy Second (a .looks) b) ≡ given c
-          → c .looks ≤ (count f + levels) + (count g + levels)
-      both a x true b y h = omega (arith, taken h, get-given f k s a x .1)
-      both a x false (refused q) y h = absurd (refused-given h)
-      both a x false (given b) y h = omega (arith, taken h, get-given f k s a x .1, get-given g k s b y .1)
-
-      first : (a : Answer Lookup) → get f k s ≡ a → cond (answersOf a) (toldBy First 0 a) (toldBy Second (looksTaken a) (get g k s)) ≡ given c
-          → c .looks ≤ (count f + levels) + (count g + levels)
-      first (refused q) x h = absurd (refused-given h)
-      first (given a) x h = both a x (isSaid (a .says)) (get g k s) refl h
-
   gets-pair : (r : PairLookup) → pairAs r ≡ getPair f g k s → GetsPair f g k s r
   gets-pair r e = record {
     exact = e;
-    looks = λ c d. pair-looks c (sym e ∙ d);
     rule = λ x y low short. let (c, d, t) = pair-tells x y low short in (c, e ∙ d, t);
+    looks = λ a d. pair-few f g k s (a .looks) (pair-searched f g k s a (sym e ∙ d));
   }
 
   module _ {a : Bool} (ea : a ≡ headerHolds f) where

@@ -2,6 +2,7 @@
 use Prim.Native.Nat.{ℕ, zero, suc, _+_, _≤_}
 use native.Mathlib.Omega.{arith}
 use mathlib.Core.Path.{_≡_, refl, ap}
+use mathlib.Core.Logic.{⊎-elim}
 use mathlib.Core.List.{List, List·Memᴰ, Memᴰ·append-left, Memᴰ·append-right}
 use mathlib.Core.Bool.{Bool, true, false}
 use lib.ListN.{length, length-append}
@@ -12,10 +13,11 @@ use Rattle.rule.proofs.Order.{keys, less-true}
 use Rattle.rule.proofs.Scans.{left, left-most, left-less, left-member}
 use Rattle.image.specs.Nodes.{count}
 use Rattle.image.specs.Sound.{held}
-use Rattle.image.specs.Refusals.{Answer, refused, given}
+use Rattle.image.specs.Refusals.{damaged, Answer, refused, given}
 use Rattle.table.proofs.Laws.{node-held, held-length}
+use Rattle.cursor.proofs.Unique.{no-refusal}
 use Rattle.cursor.specs.Places.{all, entryAt, PlaceIn}
-use Rattle.cursor.specs.Moves.{asked, keyGiven, Lands, Moves}
+use Rattle.cursor.specs.Moves.{asked, keyGiven, MovedIs, Lands, Moves}
 use Rattle.cursor.specs.Scans.{GoesOn, Scan, went}
 use Rattle.cursor.specs.declared.places.Side.{Side}
 use Rattle.cursor.specs.declared.places.Side.the-variants.{First, Second}
@@ -50,8 +52,8 @@ landed : (v : Move) (f g : List ℕ) (s : ℕ) (c : Cursor) (p : Place) → Move
 landed v f g s c p m = go (asked f g s c (keyGiven v)) refl
   where
     go : (a : Answer {0} Unit) → asked f g s c (keyGiven v) ≡ a → Lands v f g s c p
-    go (refused q) e = absurd (m .refused q e)
-    go (given tt) e = m .lands e
+    go (refused q) e = absurd (no-refusal q (ap (λ (a : MovedIs). a .refusal) (m .refused q e)))
+    go (given tt) e = ⊎-elim (λ w. w .1) (λ w. absurd (no-refusal damaged (ap (λ (a : MovedIs). a .refusal) w))) (m .lands e)
 
 -- one argument for both ways: a move from a place ends ahead of it
 module _ (v : Move) (f g : List ℕ) (s : ℕ) (ahead : Entry → Entry → Bool) (never : (e : Entry) → ahead e e ≡ false) (trans : (e f g : Entry) → ahead e f ≡ true → ahead f g ≡ true → ahead e g ≡ true)

@@ -1,8 +1,10 @@
--- Two answers that a promise allows are one: of the moves on sound tables, of the pair lookup and the views on any bytes.
-use Prim.Native.Nat.{ℕ}
+-- Two answers that a promise allows are one: of the moves where they are refused and on sound tables, of the pair lookup and the views on any bytes.
+use Prim.Native.Nat.{ℕ, zero, suc}
 use native.Mathlib.Omega.{arith}
 use mathlib.Core.Path.{_≡_, refl, sym, ap, _∙_}
-use mathlib.Core.List.{List}
+use mathlib.Core.Logic.{inl, inr}
+use mathlib.Core.List.{List, [], _∷_}
+use lib.ListN.{getD}
 use Rattle.rule.specs.Lists.{Maybe, none, some}
 use Rattle.rule.specs.Entries.{Entry}
 use Rattle.rule.specs.Rows.{row}
@@ -11,15 +13,14 @@ use Rattle.rule.proofs.Rows.{true-fits}
 use Rattle.image.specs.Nodes.{entryOf}
 use Rattle.image.specs.Sound.{Sound}
 use Rattle.image.specs.Meaning.{IsNode}
-use Rattle.image.specs.Refusals as is
-use Rattle.image.specs.Refusals.{Answer, refused, given}
-use Rattle.table.specs.declared.refusals.Refusal.{Refusal}
+use Rattle.image.specs.Refusals.{Refusal, badImage, badKind, badNumber, longKey, longValue, badHeight, noRoom, duplicate, damaged, noNode, numberOf, Answer, refused, given}
+use Rattle.table.specs.declared.refusals.Refusal.the-variants.{BadImage, BadKind, BadNumber, LongKey, LongValue, BadHeight, NoRoom, Duplicate, Damaged, NoNode}
 use Rattle.table.proofs.Laws.{node-held, node-single}
 use Rattle.table.proofs.OneAnswer.{refusalFrom, refusal-back}
 use Rattle.cursor.proofs.Merging.{known}
 use Rattle.cursor.specs.Places.{all, place, entryAt}
 use Rattle.cursor.specs.Walks.{Gives}
-use Rattle.cursor.specs.Moves.{asked, keyGiven, startKey, LeadsTo, RefusedWith, Moves}
+use Rattle.cursor.specs.Moves.{asked, keyGiven, startKey, MovedIs, movedTo, movedAs, LeadsTo, Moves, Decided}
 use Rattle.cursor.specs.Pairs.{PairSays, found, deleted, absent, PairLooked, pairAs, GetsPair}
 use Rattle.cursor.specs.Rows.{valueIn, ShowsKey, ShowsValue, Refuses}
 use Rattle.cursor.specs.RowSpans.{PartIn, rowSpanAs, View, RowSpans}
@@ -53,30 +54,54 @@ module _ (f g : List ℕ) (x : Sound f) (y : Sound g) (s : ℕ) where
       go Second i First j a b = let e : entryOf f j ≡ entryOf g i = cc (a .newest-is, b .newest-is) in
           absurd (omega (arith, a .first (entryOf f j) (node-held f j (b .inside)) (true-fits k s (entryOf f j) (known k s (all f g) (some (entryOf f j)) (b .newest-is) .1)), ap (λ (d : Entry). d .number) e))
 
-  leads-one : (t : Maybe (List ℕ)) (r q : Moved) → LeadsTo f g s t r → LeadsTo f g s t q → r ≡ q
-  leads-one none (To Nowhere) (To Nowhere) a b = refl
-  leads-one none (To Nowhere) (To (On p)) a b = absurd b
-  leads-one none (To Nowhere) (Refused n c) a b = absurd b
-  leads-one none (To (On p)) q a b = absurd a
-  leads-one none (Refused n c) q a b = absurd a
-  leads-one (some k) (To Nowhere) q a b = absurd a
-  leads-one (some k) (To (On p)) (To Nowhere) a b = absurd b
-  leads-one (some k) (To (On p)) (To (On q)) a b = ap (λ (o : Place). To (On o)) (place-one k p q a b)
-  leads-one (some k) (To (On p)) (Refused n c) a b = absurd b
-  leads-one (some k) (Refused n c) q a b = absurd a
+  leads-one : (t : Maybe (List ℕ)) (a b : MovedIs) → LeadsTo f g s t a → LeadsTo f g s t b → a ≡ b
+  leads-one none a b m n = m ∙ sym n
+  leads-one (some k) a b (p, d, m) (q, e, n) = d ∙ ap (λ (o : Place). movedTo (On o)) (place-one k p q m n) ∙ sym e
 
--- a refusal is one answer on any bytes
-refused-one : (o : is.Refusal) (c : Cursor) (r q : Moved) → RefusedWith o c r → RefusedWith o c q → r ≡ q
-refused-one o c (To d) q a b = absurd a
-refused-one o c (Refused m d) (To e) a b = absurd b
-refused-one o c (Refused m d) (Refused n e) (i, h) (j, k) = let z : m ≡ n = sym (refusal-back m) ∙ ap refusalFrom (i ∙ sym j) ∙ refusal-back n in rw (z, h, k)
+-- from the answers of the definition back to those of the code, by the number of the refusal
+movedFrom : ℕ → Cursor → Moved
+movedFrom zero c = To c
+movedFrom (suc n) c = Refused (getD (BadImage ∷ BadKind ∷ BadNumber ∷ LongKey ∷ LongValue ∷ BadHeight ∷ NoRoom ∷ Duplicate ∷ Damaged ∷ NoNode ∷ []) n BadImage) c
 
-pub move-one : (v : Move) (f g : List ℕ) → Sound f → Sound g → (s : ℕ) (c : Cursor) (r q : Moved) → Moves v f g s c r → Moves v f g s c q → r ≡ q
-move-one v f g x y s c r q a b = go (asked f g s c (keyGiven v)) refl
+moved-back : (r : Moved) → movedFrom (movedAs r .refusal) (movedAs r .cursor) ≡ r
+unfolding movedFrom
+moved-back (To c) = refl
+moved-back (Refused BadImage c) = refl
+moved-back (Refused BadKind c) = refl
+moved-back (Refused BadNumber c) = refl
+moved-back (Refused LongKey c) = refl
+moved-back (Refused LongValue c) = refl
+moved-back (Refused BadHeight c) = refl
+moved-back (Refused NoRoom c) = refl
+moved-back (Refused Duplicate c) = refl
+moved-back (Refused Damaged c) = refl
+moved-back (Refused NoNode c) = refl
+
+-- the paper's number and cursor fix the answer
+pub moved-one : (r q : Moved) → movedAs r ≡ movedAs q → r ≡ q
+moved-one r q e = sym (moved-back r) ∙ ap (λ (a : MovedIs). movedFrom (a .refusal) (a .cursor)) e ∙ moved-back q
+
+-- two answers that a move's promise allows are one: on any bytes where the arguments are refused, and where both tables are sound
+pub move-one : (v : Move) (f g : List ℕ) (s : ℕ) (c : Cursor) → Decided v f g s c → (r q : Moved) → Moves v f g s c r → Moves v f g s c q → r ≡ q
+move-one v f g s c (inl (o, e)) r q a b = moved-one r q (a .refused o e ∙ sym (b .refused o e))
+move-one v f g s c (inr (x, y)) r q a b = moved-one r q (go (asked f g s c (keyGiven v)) refl)
   where
-    go : (w : Answer {0} Unit) → asked f g s c (keyGiven v) ≡ w → r ≡ q
-    go (given u) e = leads-one f g x y s (target v s (startKey f g c) (all f g)) r q (a .rule e x y) (b .rule e x y)
-    go (refused o) e = refused-one o c r q (a .refused o e) (b .refused o e)
+    go : (w : Answer {0} Unit) → asked f g s c (keyGiven v) ≡ w → movedAs r ≡ movedAs q
+    go (given tt) e = leads-one f g x y s (target v s (startKey f g c) (all f g)) (movedAs r) (movedAs q) (a .rule e x y) (b .rule e x y)
+    go (refused o) e = a .refused o e ∙ sym (b .refused o e)
+
+-- every refusal has a number
+pub no-refusal : (q : Refusal) → 0 ≡ numberOf q → ⊥
+no-refusal badImage e = omega arith
+no-refusal badKind e = omega arith
+no-refusal badNumber e = omega arith
+no-refusal longKey e = omega arith
+no-refusal longValue e = omega arith
+no-refusal badHeight e = omega arith
+no-refusal noRoom e = omega arith
+no-refusal duplicate e = omega arith
+no-refusal damaged e = omega arith
+no-refusal noNode e = omega arith
 
 -- what the views show at the place is the row by the rule
 pub gives-row : (f g : List ℕ) (s : ℕ) (k : List ℕ) (p : Place) → Gives f g s k p → (entryAt f g p .key ≡ k) × (row k s (all f g) ≡ some (valueIn (entryAt f g p)))

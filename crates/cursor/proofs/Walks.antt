@@ -14,15 +14,17 @@ use Rattle.rule.specs.Rows.{shown, row}
 use Rattle.rule.specs.Moves.{best}
 use Rattle.rule.specs.Nearest.{HasKey, Least, remaining}
 use Rattle.rule.proofs.Nearest.{best-end, best-done, best-past, remaining-length, remaining-mono, remaining-less}
-use Rattle.image.specs.Sound.{Sound, held}
+use Rattle.image.specs.Nodes.{count, entryOf}
+use Rattle.image.specs.Sound.{headerHolds, Sound, held}
+use Rattle.image.specs.EntryMoves.{on, partsOn, viewRefusal}
 use Rattle.image.specs.Cuts.{Cut, cmpOf, admits, pastOf}
 use Rattle.image.proofs.Nearest.{way, onward, past-way, past-admits}
 use Rattle.image.proofs.Landing.{key-read}
 use Rattle.table.specs.Questions.{nodesOf}
-use Rattle.table.proofs.Laws.{held-length, nodes-sound, past-past}
+use Rattle.table.proofs.Laws.{node-held, held-length, past-past}
 use Rattle.cursor.specs.Places.{imageOf, all, entryAt, keyAt, PlaceReads}
-use Rattle.cursor.specs.Merging.{NearestIs, NewestIs}
-use Rattle.cursor.specs.Walks.{StepRule, Stepped, cutFrom, keyFrom, tickOf, spentOf, bestOf, Ends, Walked}
+use Rattle.cursor.specs.Merging.{HasNode, NearestIs, NewestDamaged, NewestIs}
+use Rattle.cursor.specs.Walks.{StepRule, Stepped, cutFrom, keyFrom, tickOf, spentOf, bestOf, Ends, Walked, Passes, start, more}
 use Rattle.cursor.specs.declared.places.Place.{Place}
 use Rattle.cursor.specs.declared.merging_iter.Meeting.{Meeting}
 use Rattle.cursor.specs.declared.merging_iter.Nearest.the-variants as nearest
@@ -44,18 +46,18 @@ key-read-at f g p r = key-read (imageOf (p .table) f g) (p .node) (r .readable)
 
 module _ (f g : List ℕ) (s : ℕ) (c : Cut) (t : List ℕ) where
   pub step-damaged : NearestIs f g c t nearest.Damaged → Stepped f g s c t step.Damaged
-  step-damaged n = record { rule = n .rule; lands = tt }
+  step-damaged n = record { rule = n .rule; lands = inl (n .lands) }
 
   pub step-end : NearestIs f g c t nearest.Nothing → Stepped f g s c t step.End
   step-end n = record { rule = n .rule; lands = tt }
 
   module _ {m : Meeting} (n : NearestIs f g c t (nearest.At m)) {k : List ℕ} (e : k ≡ keyAt f g (m .place)) where
     pub step-hurt : NewestIs f g k s newer.Damaged → Stepped f g s c t step.Damaged
-    step-hurt r = record { rule = r .over .rule; lands = tt }
+    step-hurt r = record { rule = r .over .rule; lands = inr (m, n .lands, subst (λ (l : List ℕ). NewestDamaged f g l s) (e ∙ key-read-at f g (m .place) (n .lands .reads)) (r .over .lands)) }
 
     -- the key has no row
     passes : (Sound f → Sound g → isSome (row k s (all f g)) ≡ false) → Stepped f g s c t (step.Pass m)
-    passes h = record { rule = λ x y. (n .rule x y .0, n .rule x y .1, rw (← e) (h x y)); lands = n .lands }
+    passes h = record { rule = λ x y. (n .rule x y, rw (← e) (h x y)); lands = n .lands }
 
     pub step-absent : NewestIs f g k s newer.Nothing → Stepped f g s c t (step.Pass m)
     step-absent r = passes (λ x y. ap (λ (a : Maybe Entry). isSome (shown a)) (r .over .rule x y))
@@ -63,7 +65,7 @@ module _ (f g : List ℕ) (s : ℕ) (c : Cut) (t : List ℕ) where
     module _ {v : Version} (r : NewestIs f g k s (newer.At v)) where
       pub step-done : v .value ≡ true → Stepped f g s c t (step.Done (v .place))
       step-done h = record {
-        rule = λ x y. let o = r .over .rule x y in (k, rw e (n .rule x y .0), record { inside = r .over .lands .reads .inside; newest-is = o .0; value-is = rw h at (o .1); first = r .first x y });
+        rule = λ x y. let o = r .over .rule x y in (k, rw e (n .rule x y), record { inside = r .over .lands .reads .inside; newest-is = o .0; value-is = rw h at (o .1); first = r .first x y });
         lands = let o = r .over .lands in record { reads = o .reads; admitted = rw (o .key-is, e, key-read-at f g (m .place) (n .lands .reads)) (n .lands .admitted); value-is = rw h at (o .kind-is); number-most = o .number-most };
       }
 
@@ -114,30 +116,57 @@ rest-means l m r e = go (ltb (l .first) (tickOf (m .first))) refl (ltb (l .secon
 pub behind-key : (c d : Cut) (u k : List ℕ) → pastOf d ≡ pastOf c → admits d u k ≡ true → (l : List ℕ) → admits (pastOf c) k l ≡ true → admits d u l ≡ true
 behind-key c d u k e a l h = onward d u k l a (ap (λ (q : List ℕ → Bool). q l) (sym (past-admits d k)) ∙ rw e h)
 
-module _ (es : List Entry) (c d : Cut) (u k : List ℕ) (e : pastOf d ≡ pastOf c) (least : Least (cmpOf d) (admits d u) es (some k)) where
-  further : (l : List ℕ) → admits (pastOf c) k l ≡ true → admits d u l ≡ true
-  further = behind-key c d u k e (least .1)
-
+module _ (c d : Cut) (u k : List ℕ) (e : pastOf d ≡ pastOf c) where
   -- without a row the search goes on behind it
-  best-on : (s : ℕ) → isSome (row k s es) ≡ false → best (λ a b. isLess (cmpOf d a b)) (admits d u) s es es ≡ best (λ a b. isLess (cmpOf (pastOf c) a b)) (admits (pastOf c) k) s es es
-  best-on s h = best-past (cmpOf d) (way d) s es (admits d u) k least (onward d u) h ∙ rw (← past-admits d k, ← past-way d, e)
+  best-on : (s : ℕ) (es : List Entry) → Least (cmpOf d) (admits d u) es (some k) → isSome (row k s es) ≡ false
+      → best (λ a b. isLess (cmpOf d a b)) (admits d u) s es es ≡ best (λ a b. isLess (cmpOf (pastOf c) a b)) (admits (pastOf c) k) s es es
+  best-on s es least h = best-past (cmpOf d) (way d) s es (admits d u) k least (onward d u) h ∙ rw (← past-admits d k, ← past-way d, e)
 
   -- a table that has the key has one entry less behind the cut, and none has more
-  one-less : (fs : List Entry) (b : Bool) → (b ≡ true → HasKey k fs) → tickOf b + remaining (admits (pastOf c) k) fs ≤ remaining (admits d u) fs
-  one-less fs false h = omega (arith, remaining-mono (admits d u) (admits (pastOf c) k) further fs)
-  one-less fs true h = omega (arith, remaining-less (admits d u) (admits (pastOf c) k) further k (least .1) itself fs (h refl))
+  one-less : admits d u k ≡ true → (fs : List Entry) (b : Bool) → (b ≡ true → HasKey k fs) → tickOf b + remaining (admits (pastOf c) k) fs ≤ remaining (admits d u) fs
+  one-less a fs false h = omega (arith, remaining-mono (admits d u) (admits (pastOf c) k) (behind-key c d u k e a) fs)
+  one-less a fs true h = omega (arith, remaining-less (admits d u) (admits (pastOf c) k) (behind-key c d u k e a) k a itself fs (h refl))
     where
       itself : admits (pastOf c) k k ≡ false
       itself = rw (← e, past-admits d k, way d .same k)
 
+-- a node that can be read is in a table whose header holds
+header-read : (xs : List ℕ) (i : ℕ) → viewRefusal xs (on i) ≡ 0 → headerHolds xs ≡ true
+unfolding partsOn
+header-read xs i e = go (headerHolds xs) refl
+  where
+    go : (b : Bool) → headerHolds xs ≡ b → headerHolds xs ≡ true
+    go true h = h
+    go false h = let z : viewRefusal xs (on i) ≡ 1 = rw h in absurd (omega (arith, z, e))
+
+-- the cut past the key of a place is the same from wherever the walk has come to
+past-from : (c : Cut) (at : Reached) → pastOf (cutFrom c at) ≡ pastOf c
+past-from c Start = refl
+past-from c (Past p) = past-past c
+
+-- a key that a turn passes, on any bytes
+module _ (f g : List ℕ) (s : ℕ) (c : Cut) (t : List ℕ) (at : Reached) (m : Meeting) (r : Stepped f g s (cutFrom c at) (keyFrom f g t at) (step.Pass m)) where
+  key-is : keyAt f g (m .place) ≡ entryAt f g (m .place) .key
+  key-is = key-read-at f g (m .place) (r .lands .reads)
+
+  pub admitted : admits (cutFrom c at) (keyFrom f g t at) (keyAt f g (m .place)) ≡ true
+  admitted = rw key-is (r .lands .admitted)
+
+  has-key : (xs : List ℕ) → HasNode xs (entryAt f g (m .place) .key) → HasKey (keyAt f g (m .place)) (held xs)
+  has-key xs h = (entryOf xs (h .node), node-held xs (h .node) (h .inside), h .key-is ∙ sym key-is)
+
+  pub less-of : (xs : List ℕ) (b : Bool) → (b ≡ true → HasNode xs (entryAt f g (m .place) .key))
+      → tickOf b + remaining (admits (pastOf c) (keyAt f g (m .place))) (held xs) ≤ remaining (admits (cutFrom c at) (keyFrom f g t at)) (held xs)
+  less-of xs b h = one-less c (cutFrom c at) (keyFrom f g t at) (keyAt f g (m .place)) (past-from c at) admitted (held xs) b (λ z. has-key xs (h z))
+
 -- ---- between turns
 
--- the key that is looked for is the first with a row behind the cut where the walk has come to, and the counts last; on any bytes, what is behind
--- that cut is behind the one where it began
+-- the key that is looked for is the first with a row behind the cut where the walk has come to; on any bytes, what is behind that cut is behind the one
+-- where it began, and the counts last: no more entries of a table lie there than may still be met
 pub record Kept (f g : List ℕ) (s : ℕ) (c : Cut) (t : List ℕ) (at : Reached) (left : Left) : Type 0 where
   pub same : Sound f → Sound g → bestOf f g s c t ≡ bestOf f g s (cutFrom c at) (keyFrom f g t at)
-  pub first : Sound f → Sound g → remaining (admits (cutFrom c at) (keyFrom f g t at)) (held f) ≤ left .first
-  pub second : Sound f → Sound g → remaining (admits (cutFrom c at) (keyFrom f g t at)) (held g) ≤ left .second
+  pub first : headerHolds f ≡ true → remaining (admits (cutFrom c at) (keyFrom f g t at)) (held f) ≤ left .first
+  pub second : headerHolds g ≡ true → remaining (admits (cutFrom c at) (keyFrom f g t at)) (held g) ≤ left .second
   pub behind : (k : List ℕ) → admits (cutFrom c at) (keyFrom f g t at) k ≡ true → admits c t k ≡ true
 
 -- the walk goes on, with less left
@@ -145,18 +174,15 @@ pub record Going (f g : List ℕ) (s : ℕ) (c : Cut) (t : List ℕ) (at : Reach
   pub kept : Kept f g s c t at rest
   pub fewer : rest .first + rest .second < left .first + left .second
 
--- the cut past the key of a place is the same from wherever the walk has come to
-past-from : (c : Cut) (at : Reached) → pastOf (cutFrom c at) ≡ pastOf c
-past-from c Start = refl
-past-from c (Past p) = past-past c
-
--- a header that holds has its length
 module _ (f g : List ℕ) (s : ℕ) (c : Cut) (t : List ℕ) where
+  counted : (xs : List ℕ) {i : ℕ} → i ≡ nodesOf xs → headerHolds xs ≡ true → remaining (admits c t) (held xs) ≤ i
+  counted xs {i} a h = let e : i ≡ count xs = rw h at a in omega (arith, e, remaining-length (admits c t) (held xs), held-length xs)
+
   pub kept-start : {i j : ℕ} → i ≡ nodesOf f → j ≡ nodesOf g → Kept f g s c t Start (record { first = i; second = j })
   kept-start a b = record {
     same = λ x y. refl;
-    first = λ x y. omega (arith, remaining-length (admits c t) (held f), held-length f, nodes-sound f x);
-    second = λ x y. omega (arith, remaining-length (admits c t) (held g), held-length g, nodes-sound g y);
+    first = λ h. counted f a h;
+    second = λ h. counted g b h;
     behind = λ k h. h;
   }
 
@@ -165,7 +191,7 @@ module _ (f g : List ℕ) (s : ℕ) (c : Cut) (t : List ℕ) where
     ends a b e r h = subst (λ (n : Maybe (List ℕ)). Ends f g s n r) (sym e) h
 
     pub kept-damaged : Stepped f g s (cutFrom c at) (keyFrom f g t at) step.Damaged → Walked f g s c t found.Damaged
-    kept-damaged r = record { rule = λ x y. absurd (r .rule x y); lands = tt }
+    kept-damaged r = record { rule = λ x y. absurd (r .rule x y); lands = (at, r .lands) }
 
     pub kept-end : Stepped f g s (cutFrom c at) (keyFrom f g t at) step.End → Walked f g s c t found.Nothing
     kept-end r = record {
@@ -180,23 +206,40 @@ module _ (f g : List ℕ) (s : ℕ) (c : Cut) (t : List ℕ) where
         go d u (l, h, v) e = ends (bestOf f g s c t) (some l) (e ∙ best-done (cmpOf d) (way d) s (all f g) (admits d u) l h (rw (v .newest-is, v .value-is))) (found.At p) v
 
     module _ {m : Meeting} (r : Stepped f g s (cutFrom c at) (keyFrom f g t at) (step.Pass m)) where
-      less-of : (xs : List ℕ) (b : Bool) → (x : Sound f) (y : Sound g) → (b ≡ true → HasKey (keyAt f g (m .place)) (held xs))
-          → tickOf b + remaining (admits (pastOf c) (keyAt f g (m .place))) (held xs) ≤ remaining (admits (cutFrom c at) (keyFrom f g t at)) (held xs)
-      less-of xs b x y h = one-less (all f g) c (cutFrom c at) (keyFrom f g t at) (keyAt f g (m .place)) (past-from c at) (r .rule x y .0) (held xs) b h
+      -- what may still be met is not used up by a key that is met
+      lasts : (xs : List ℕ) (b : Bool) (n : ℕ) → (b ≡ true → HasNode xs (entryAt f g (m .place) .key)) → (headerHolds xs ≡ true → remaining (admits (cutFrom c at) (keyFrom f g t at)) (held xs) ≤ n) → n < tickOf b → ⊥
+      lasts xs false n h few z = omega arith
+      lasts xs true n h few z = let o = h refl in omega (arith, z, few (header-read xs (o .node) (o .readable)), less-of f g s c t at m r xs true h)
+
+      -- so no count is ever used up
+      never-over : spentOf left m ≡ Over → ⊥
+      never-over h = ⊎-elim (lasts f (m .first) (left .first) (r .lands .in-first) (k .first)) (lasts g (m .second) (left .second) (r .lands .in-second) (k .second)) (over-means left m h)
 
       pub kept-over : spentOf left m ≡ Over → Walked f g s c t found.Damaged
-      kept-over h = record {
-        rule = λ x y. absurd (⊎-elim (λ z. omega (arith, z, k .first x y, less-of f (m .first) x y (r .rule x y .1 .in-first))) (λ z. omega (arith, z, k .second x y, less-of g (m .second) x y (r .rule x y .1 .in-second))) (over-means left m h));
-        lands = tt;
-      }
+      kept-over h = absurd (never-over h)
 
       pub kept-on : {rest : Left} → spentOf left m ≡ Rest rest → Going f g s c t (Past (m .place)) left rest
       kept-on {rest} h = let (p, q) = rest-means left m rest h in record {
         kept = record {
-          same = λ x y. k .same x y ∙ best-on (all f g) c (cutFrom c at) (keyFrom f g t at) (keyAt f g (m .place)) (past-from c at) (r .rule x y .0) s (r .rule x y .2);
-          first = λ x y. omega (arith, p, k .first x y, less-of f (m .first) x y (r .rule x y .1 .in-first));
-          second = λ x y. omega (arith, q, k .second x y, less-of g (m .second) x y (r .rule x y .1 .in-second));
-          behind = λ l z. k .behind l (behind-key c (cutFrom c at) (keyFrom f g t at) (keyAt f g (m .place)) (past-from c at) (rw (key-read-at f g (m .place) (r .lands .reads)) (r .lands .admitted)) l z);
+          same = λ x y. k .same x y ∙ best-on c (cutFrom c at) (keyFrom f g t at) (keyAt f g (m .place)) (past-from c at) s (all f g) (r .rule x y .0) (r .rule x y .1);
+          first = λ z. omega (arith, p, k .first z, less-of f g s c t at m r f (m .first) (r .lands .in-first));
+          second = λ z. omega (arith, q, k .second z, less-of f g s c t at m r g (m .second) (r .lands .in-second));
+          behind = λ l z. k .behind l (behind-key c (cutFrom c at) (keyFrom f g t at) (keyAt f g (m .place)) (past-from c at) (admitted f g s c t at m r) l z);
         };
         fewer = ⊎-elim (λ z. let n : tickOf (m .first) ≡ 1 = rw z in omega (arith, p, q, n)) (λ z. let n : tickOf (m .second) ≡ 1 = rw z in omega (arith, p, q, n)) (r .lands .somewhere);
       }
+
+-- ---- how many nodes of a table a walk meets
+
+pub few-left : (f g : List ℕ) (s : ℕ) (c : Cut) (t : List ℕ) {at : Reached} {i j : ℕ} → Passes f g s c t at i j
+    → (i + remaining (admits (cutFrom c at) (keyFrom f g t at)) (held f) ≤ count f) × (j + remaining (admits (cutFrom c at) (keyFrom f g t at)) (held g) ≤ count g)
+few-left f g s c t start = (omega (arith, remaining-length (admits c t) (held f), held-length f), omega (arith, remaining-length (admits c t) (held g), held-length g))
+few-left f g s c t (more {at = at} m p r) =
+    let (i, j) = few-left f g s c t p in
+    let u = less-of f g s c t at m r f (m .first) (r .lands .in-first) in
+    let v = less-of f g s c t at m r g (m .second) (r .lands .in-second) in
+    (omega (arith, i, u), omega (arith, j, v))
+
+-- on any bytes no walk meets more nodes of a table than it has
+pub passes-few : (f g : List ℕ) (s : ℕ) (c : Cut) (t : List ℕ) {at : Reached} {i j : ℕ} → Passes f g s c t at i j → (i ≤ count f) × (j ≤ count g)
+passes-few f g s c t p = let (i, j) = few-left f g s c t p in (omega (arith, i), omega (arith, j))

@@ -9,9 +9,14 @@ use Rattle.rule.specs.Lists.{cond, none, some, All}
 use Rattle.rule.specs.Order.{isLess}
 use Rattle.rule.specs.Entries.{Entry, valueKind, deletionKind}
 use Rattle.rule.specs.Rows.{fits, newest}
-use Rattle.rule.specs.Nearest.{HasKey, Least}
-use Rattle.image.specs.Sound.{Sound, held}
-use Rattle.image.specs.Cuts.{Cut, cmpOf, admits}
+use Rattle.rule.specs.Nearest.{Least}
+use Rattle.image.specs.Nodes.{entryOf}
+use Rattle.image.specs.Sound.{Sound}
+use Rattle.image.specs.Refusals.{refused, damaged}
+use Rattle.image.specs.EntryMoves.{on, viewRefusal}
+use Rattle.image.specs.Meaning.{IsNode}
+use Rattle.image.specs.Cuts.{Cut, cmpOf, admits, nearest as nearestIn}
+use Rattle.image.specs.Newest.{newestAt as newestIn}
 use Rattle.table.specs.declared.questions.Hit.{Hit}
 use Rattle.table.specs.declared.questions.Hit.the-variants as hit
 use Rattle.table.specs.declared.questions.NewestAt.{NewestAt}
@@ -52,28 +57,36 @@ soonerOf key c (nearest.At x) nearest.Damaged = nearest.Damaged
 soonerOf key c (nearest.At x) nearest.Nothing = nearest.At x
 soonerOf key c (nearest.At x) (nearest.At y) = nearest.At (nearerOf key c x y)
 
--- the tables that a key is said to be met in have it
-pub record MetIn (f g : List ℕ) (k : List ℕ) (m : Meeting) : Type 0 where
-  pub in-first : m .first ≡ true → HasKey k (held f)
-  pub in-second : m .second ≡ true → HasKey k (held g)
-
 -- among some entries: of the keys that the cut admits the one that comes first, or that there is none
 abbrev pub NearestAmong : List Entry → List ℕ → List ℕ → Cut → List ℕ → Nearest → Type 0
-NearestAmong es f g c t (nearest.At m) = Least (cmpOf c) (admits c t) es (some (keyAt f g (m .place))) × MetIn f g (keyAt f g (m .place)) m
+NearestAmong es f g c t (nearest.At m) = Least (cmpOf c) (admits c t) es (some (keyAt f g (m .place)))
 NearestAmong es f g c t nearest.Nothing = Least (cmpOf c) (admits c t) es none
 NearestAmong es f g c t nearest.Damaged = ⊥
 
--- on any bytes: the place can be read whole, the cut admits its key, and the key is met in one table at least
+-- on any bytes: a node of the table can be read whole and has the key
+pub record HasNode (xs k : List ℕ) : Type 0 where
+  pub node : ℕ
+  pub inside : IsNode xs node
+  pub readable : viewRefusal xs (on node) ≡ 0
+  pub key-is : entryOf xs node .key ≡ k
+
+-- on any bytes: the place can be read whole, the cut admits its key, the key is met in one table at least, and a table that it is met in has it
 pub record MeetingIn (f g : List ℕ) (c : Cut) (t : List ℕ) (m : Meeting) : Type 0 where
   pub reads : PlaceReads f g (m .place)
   pub admitted : admits c t (entryAt f g (m .place) .key) ≡ true
   pub somewhere : (m .first ≡ true) ⊎ (m .second ≡ true)
+  pub in-first : m .first ≡ true → HasNode f (entryAt f g (m .place) .key)
+  pub in-second : m .second ≡ true → HasNode g (entryAt f g (m .place) .key)
+
+-- on any bytes: one of the tables cannot tell its nearest key, for damage
+abbrev pub NearDamaged : List ℕ → List ℕ → Cut → List ℕ → Type 0
+NearDamaged f g c t = (nearestIn f c t ≡ refused damaged) ⊎ (nearestIn g c t ≡ refused damaged)
 
 -- the same of an answer
 abbrev pub NearestIn : List ℕ → List ℕ → Cut → List ℕ → Nearest → Type 0
 NearestIn f g c t (nearest.At m) = MeetingIn f g c t m
 NearestIn f g c t nearest.Nothing = Unit
-NearestIn f g c t nearest.Damaged = Unit
+NearestIn f g c t nearest.Damaged = NearDamaged f g c t
 
 -- what is promised of an answer about some of the entries
 pub record NearestOver (es : List Entry) (f g : List ℕ) (c : Cut) (t : List ℕ) (r : Nearest) : Type 0 where
@@ -119,11 +132,15 @@ pub record VersionIn (f g : List ℕ) (k : List ℕ) (s : ℕ) (v : Version) : T
   pub number-most : entryAt f g (v .place) .number ≤ s
   pub kind-is : entryAt f g (v .place) .kind ≡ kindOf (v .value)
 
+-- on any bytes: one of the tables cannot tell its newest entry of k up to s, for damage
+abbrev pub NewestDamaged : List ℕ → List ℕ → List ℕ → ℕ → Type 0
+NewestDamaged f g k s = (newestIn f k s ≡ refused damaged) ⊎ (newestIn g k s ≡ refused damaged)
+
 -- the same of an answer
 abbrev pub NewestIn : List ℕ → List ℕ → List ℕ → ℕ → Newest → Type 0
 NewestIn f g k s (newer.At v) = VersionIn f g k s v
 NewestIn f g k s newer.Nothing = Unit
-NewestIn f g k s newer.Damaged = Unit
+NewestIn f g k s newer.Damaged = NewestDamaged f g k s
 
 -- no table before that of the place has an entry of k up to s that is as new
 abbrev pub FirstAsNew : List ℕ → List ℕ → ℕ → List ℕ → Place → Type 0

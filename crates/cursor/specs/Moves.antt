@@ -3,6 +3,7 @@
 -- started; or nowhere; or damage with the cursor as it was handed. So no scan goes round.
 use Prim.Native.Nat.{ℕ, _≤_}
 use mathlib.Core.Path.{_≡_}
+use mathlib.Core.Logic.{_⊎_}
 use mathlib.Core.List.{List, []}
 use mathlib.Core.Bool.{false}
 use lib.ListN.{length}
@@ -15,7 +16,7 @@ use Rattle.image.specs.Limits.{maxKey, maxNumber}
 use Rattle.image.specs.Sound.{Sound, headerHolds}
 use Rattle.image.specs.Cuts.{Cut}
 use Rattle.image.specs.Refusals as is
-use Rattle.image.specs.Refusals.{Answer, refused, given, demand, badImage, noNode, badNumber, longKey, damaged}
+use Rattle.image.specs.Refusals.{Answer, refused, given, demand, badImage, noNode, badNumber, longKey, damaged, numberOf}
 use Rattle.table.specs.Refusals.{refusalIs}
 use Rattle.table.specs.declared.refusals.Refusal.the-variants as refusal
 use Rattle.cursor.specs.Places.{all, entryAt, refusalAt, PlaceIn, inside}
@@ -61,6 +62,20 @@ startKey f g (On p) = some (entryAt f g p .key)
 
 -- ---- the answer
 
+-- an answer in the paper's terms: the number of its refusal, 0 for none, and the cursor that it hands to the host
+pub record MovedIs : Type 0 where
+  pub refusal : ℕ
+  pub cursor : Cursor
+
+-- a move that is not refused
+abbrev pub movedTo : Cursor → MovedIs
+movedTo c = record { refusal = 0; cursor = c }
+
+-- the answer of a move
+abbrev pub movedAs : Moved → MovedIs
+movedAs (To c) = movedTo c
+movedAs (Refused q c) = record { refusal = numberOf (refusalIs q); cursor = c }
+
 -- the end of a walk; damage hands back the cursor
 abbrev pub movedOf : Found → Cursor → Moved
 movedOf (found.At p) c = To (On p)
@@ -68,18 +83,13 @@ movedOf found.Nothing c = To Nowhere
 movedOf found.Damaged c = Refused refusal.Damaged c
 
 -- it leads to the place of the entry that gives the row of the key, or nowhere if there is no key
-abbrev pub LeadsTo : List ℕ → List ℕ → ℕ → Maybe (List ℕ) → Moved → Type 0
-LeadsTo f g s none (To Nowhere) = Unit
-LeadsTo f g s none (To (On p)) = ⊥
-LeadsTo f g s none (Refused q c) = ⊥
-LeadsTo f g s (some k) (To Nowhere) = ⊥
-LeadsTo f g s (some k) (To (On p)) = Gives f g s k p
-LeadsTo f g s (some k) (Refused q c) = ⊥
+abbrev pub LeadsTo : List ℕ → List ℕ → ℕ → Maybe (List ℕ) → MovedIs → Type 0
+LeadsTo f g s none a = a ≡ movedTo Nowhere
+LeadsTo f g s (some k) a = (p : Place) × (a ≡ movedTo (On p)) × Gives f g s k p
 
 -- it is this refusal, with the cursor that was handed
-abbrev pub RefusedWith : is.Refusal → Cursor → Moved → Type 0
-RefusedWith q c (To d) = ⊥
-RefusedWith q c (Refused p d) = (refusalIs p ≡ q) × (d ≡ c)
+abbrev pub RefusedWith : is.Refusal → Cursor → MovedIs → Type 0
+RefusedWith q c a = a ≡ record { refusal = numberOf q; cursor = c }
 
 -- ---- on any bytes
 
@@ -100,32 +110,41 @@ pub record Lands (v : Move) (f g : List ℕ) (s : ℕ) (c : Cursor) (p : Place) 
   pub number-most : entryAt f g p .number ≤ s
   pub ahead : Ahead v (startKey f g c) (entryAt f g p .key)
 
--- there, or nowhere, or damage with the cursor that was handed
-abbrev pub LandsIn : Move → List ℕ → List ℕ → ℕ → Cursor → Moved → Type 0
-LandsIn v f g s c (To Nowhere) = Unit
-LandsIn v f g s c (To (On p)) = Lands v f g s c p
-LandsIn v f g s c (Refused q d) = RefusedWith damaged c (Refused q d)
+-- nowhere, or on a place that has P
+abbrev pub AtMost : (Place → Type 0) → Cursor → Type 0
+AtMost P Nowhere = Unit
+AtMost P (On p) = P p
+
+-- nowhere, or on a place that has P, or damage with the cursor that was handed
+abbrev pub EndsOn : (Place → Type 0) → Cursor → MovedIs → Type 0
+EndsOn P c a = ((a .refusal ≡ 0) × AtMost P (a .cursor)) ⊎ RefusedWith damaged c a
+
+-- where a move may end
+abbrev pub LandsIn : Move → List ℕ → List ℕ → ℕ → Cursor → MovedIs → Type 0
+LandsIn v f g s c = EndsOn (Lands v f g s c) c
 
 -- where a walk behind a cut may end
-abbrev pub MovedIn : List ℕ → List ℕ → ℕ → Cut → List ℕ → Cursor → Moved → Type 0
-MovedIn f g s c t at (To Nowhere) = Unit
-MovedIn f g s c t at (To (On p)) = LandsOn f g s c t p
-MovedIn f g s c t at (Refused q d) = RefusedWith damaged at (Refused q d)
+abbrev pub MovedIn : List ℕ → List ℕ → ℕ → Cut → List ℕ → Cursor → MovedIs → Type 0
+MovedIn f g s c t at = EndsOn (LandsOn f g s c t) at
 
 -- ---- the promises
 
 -- what a walk behind a cut comes to
 pub record Went (f g : List ℕ) (s : ℕ) (c : Cut) (t : List ℕ) (at : Cursor) (r : Moved) : Type 0 where
-  pub rule : Sound f → Sound g → LeadsTo f g s (bestOf f g s c t) r
-  pub lands : MovedIn f g s c t at r
+  pub rule : Sound f → Sound g → LeadsTo f g s (bestOf f g s c t) (movedAs r)
+  pub lands : MovedIn f g s c t at (movedAs r)
 
 -- and behind a cut at the key of a place
 pub record WentFrom (f g : List ℕ) (s : ℕ) (c : Cut) (p : Place) (at : Cursor) (r : Moved) : Type 0 where
-  pub rule : Sound f → Sound g → PlaceIn f g p → LeadsTo f g s (bestOf f g s c (entryAt f g p .key)) r
-  pub lands : MovedIn f g s c (entryAt f g p .key) at r
+  pub rule : Sound f → Sound g → PlaceIn f g p → LeadsTo f g s (bestOf f g s c (entryAt f g p .key)) (movedAs r)
+  pub lands : MovedIn f g s c (entryAt f g p .key) at (movedAs r)
 
 -- what a move promises
 pub record Moves (v : Move) (f g : List ℕ) (s : ℕ) (c : Cursor) (r : Moved) : Type 0 where
-  pub refused : (q : is.Refusal) → asked f g s c (keyGiven v) ≡ is.refused q → RefusedWith q c r
-  pub rule : asked f g s c (keyGiven v) ≡ given tt → Sound f → Sound g → LeadsTo f g s (target v s (startKey f g c) (all f g)) r
-  pub lands : asked f g s c (keyGiven v) ≡ given tt → LandsIn v f g s c r
+  pub refused : (q : is.Refusal) → asked f g s c (keyGiven v) ≡ is.refused q → RefusedWith q c (movedAs r)
+  pub rule : asked f g s c (keyGiven v) ≡ given tt → Sound f → Sound g → LeadsTo f g s (target v s (startKey f g c) (all f g)) (movedAs r)
+  pub lands : asked f g s c (keyGiven v) ≡ given tt → LandsIn v f g s c (movedAs r)
+
+-- where the promise leaves one answer: the arguments are refused, on any bytes, or both tables are sound
+abbrev pub Decided : Move → List ℕ → List ℕ → ℕ → Cursor → Type 0
+Decided v f g s c = ((q : is.Refusal) × (asked f g s c (keyGiven v) ≡ is.refused q)) ⊎ (Sound f × Sound g)

@@ -9,6 +9,8 @@ use Rattle.rule.specs.Lists.{cond}
 use Rattle.image.specs.Limits.{maxKey, maxNumber, levels}
 use Rattle.image.specs.Nodes.{count}
 use Rattle.image.specs.Sound.{Sound, headerHolds}
+use Rattle.image.specs.Readers.{got}
+use Rattle.image.specs.Search.{toStop, Found, searched, looksOf}
 use Rattle.image.specs.Refusals.{Answer, refused, given, demand, badImage}
 use Rattle.image.specs.Lookup.{Looked, Lookup, get}
 use Rattle.image.specs.Lookup as one
@@ -93,9 +95,22 @@ TellsPair f g k s absent = Tells f k s one.absent × Tells g k s one.absent
 abbrev pub PairRule : List ℕ → List ℕ → List ℕ → ℕ → PairLookup → Type 0
 PairRule f g k s r = (a : PairLooked) × (pairAs r ≡ given a) × TellsPair f g k s (a .says)
 
--- what the lookup in a pair promises
+-- n + 12 for each table asked
+abbrev pub mostLooks : List ℕ → List ℕ → List ℕ → ℕ → ℕ
+mostLooks f g k s = cond (answersOf (get f k s)) (count f + levels) ((count f + levels) + (count g + levels))
+
+-- what the lookup in a pair promises; `looks` on any bytes
 pub record GetsPair (f g k : List ℕ) (s : ℕ) (r : PairLookup) : Type 0 where
   pub exact : pairAs r ≡ getPair f g k s
-  -- on any bytes an answer takes at most n + 12 looks for each table asked
-  pub looks : (a : PairLooked) → pairAs r ≡ given a → a .looks ≤ (count f + levels) + (count g + levels)
   pub rule : Sound f → Sound g → s ≤ maxNumber → length k ≤ maxKey → PairRule f g k s r
+  pub looks : (a : PairLooked) → pairAs r ≡ given a → a .looks ≤ mostLooks f g k s
+
+-- ---- whose looks they are
+
+-- so many looks were made by the search for k and s, link by link
+abbrev pub SearchLooks : List ℕ → List ℕ → ℕ → ℕ → Type 0
+SearchLooks xs k s n = (f : Found) × (searched xs toStop k s ≡ got f) × (n ≡ looksOf f)
+
+-- and so many by the searches in the tables that a lookup in a pair asks: the first alone if it answers, else both
+abbrev pub PairLooks : List ℕ → List ℕ → List ℕ → ℕ → ℕ → Type 0
+PairLooks f g k s n = ((answersOf (get f k s) ≡ true) × SearchLooks f k s n) ⊎ ((answersOf (get f k s) ≡ false) × (a : ℕ) × (b : ℕ) × SearchLooks f k s a × SearchLooks g k s b × (n ≡ a + b))

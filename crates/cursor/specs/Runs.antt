@@ -1,10 +1,13 @@
 -- Runs of a host's moves over two tables that grow: what demand 3 speaks of.
-use Prim.Native.Nat.{ℕ}
+use Prim.Native.Nat.{ℕ, _<_, _≤_}
 use mathlib.Core.Path.{_≡_}
-use mathlib.Core.List.{List, [], _∷_}
-use Rattle.rule.specs.Lists.{Maybe, none, some}
+use mathlib.Core.Logic.{_↔_}
+use mathlib.Core.List.{List, [], _∷_, _++_, List·Memᴰ}
+use lib.ListN.{length}
+use Rattle.rule.specs.Lists.{Maybe, none, some, All}
 use Rattle.rule.specs.Entries.{Entry, Agree, Single}
-use Rattle.rule.specs.Moves.{Move, Row}
+use Rattle.rule.specs.Moves.{Move, target, Row, rowAt}
+use Rattle.image.specs.Limits.{maxKey, maxNumber}
 use Rattle.image.specs.Refusals.{numberOf}
 use Rattle.image.specs.EntryMoves.{on, viewed, valueView}
 use Rattle.table.specs.Refusals.{refusalIs}
@@ -12,7 +15,7 @@ use Rattle.table.specs.Growth.{Begun, Additions}
 use Rattle.table.specs.declared.memtable.Lookup.{Lookup}
 use Rattle.table.specs.declared.memtable.Lookup.the-variants as lookup
 use Rattle.cursor.specs.Places.{all}
-use Rattle.cursor.specs.Moves.{Moves}
+use Rattle.cursor.specs.Moves.{keyGiven, movedAs, Moves}
 use Rattle.cursor.specs.Rows.{ShowsKey, ShowsValue}
 use Rattle.cursor.specs.declared.places.Cursor.{Cursor}
 use Rattle.cursor.specs.declared.places.Cursor.the-variants.{Nowhere, On}
@@ -27,16 +30,6 @@ pub record Tables : Type 0 where
 -- the entries of both
 abbrev pub entriesOf : Tables → List Entry
 entriesOf t = all (t .first) (t .second)
-
--- the cursor that an answer hands to the host
-abbrev pub cursorOf : Moved → Cursor
-cursorOf (To c) = c
-cursorOf (Refused q c) = c
-
--- the number of its refusal, 0 for none
-abbrev pub refusalOf : Moved → ℕ
-refusalOf (To c) = 0
-refusalOf (Refused q c) = numberOf (refusalIs q)
 
 -- the row shown at a cursor: none when nowhere, else a key and a value that the promises of the views allow
 abbrev pub Shows : Tables → Cursor → Maybe Row → Type 0
@@ -67,8 +60,8 @@ pub data Run (s : ℕ) : Tables → Cursor → List Moment → Type 0 where
   begun : {t : Tables} → Begun (t .first) → Begun (t .second) → Run s t Nowhere []
   moved : {t : Tables} {c : Cursor} {ms : List Moment} {es fs : List Entry} (u : Tables) (v : Move) (r : Moved) (w : Maybe Row)
       → Run s t c ms → Additions (t .first) es (u .first) → Additions (t .second) fs (u .second)
-      → Moves v (u .first) (u .second) s c r → Shows u (cursorOf r) w
-      → Run s u (cursorOf r) (record { tables = u; move = v; seen = record { refusal = refusalOf r; row = w } } ∷ ms)
+      → Moves v (u .first) (u .second) s c r → Shows u (movedAs r .cursor) w
+      → Run s u (movedAs r .cursor) (record { tables = u; move = v; seen = record { refusal = movedAs r .refusal; row = w } } ∷ ms)
 
 -- the same entries up to s, and no two different ones with the same key and number: in the one list, and so in the other (`agree-single`)
 pub record Alike (s : ℕ) (es fs : List Entry) : Type 0 where
@@ -91,6 +84,43 @@ movesIn (m ∷ ms) = m .move ∷ movesIn ms
 abbrev pub Still : Tables → List Moment → Type 0
 Still t [] = Unit
 Still t (m ∷ ms) = (m .tables ≡ t) × Still t ms
+
+-- the same members
+abbrev pub SameMembers : List Entry → List Entry → Type 0
+SameMembers es fs = (e : Entry) → List·Memᴰ e es ↔ List·Memᴰ e fs
+
+-- numbered above s, all of them
+abbrev pub Later : ℕ → List Entry → Type 0
+Later s es = All (λ e. s < e .number) es
+
+-- ---- what a run shows by the rule
+
+-- the arguments of these moves at snapshot s are within their limits
+pub record InLimits (s : ℕ) (vs : List Move) : Type 0 where
+  pub number : s ≤ maxNumber
+  pub keys : All (λ v. length (keyGiven v) ≤ maxKey) vs
+
+-- the key that the last of these moments ends on, each move made over the entries held at it, the first from nowhere
+abbrev pub keyAfter : ℕ → List Moment → Maybe (List ℕ)
+keyAfter s [] = none
+keyAfter s (m ∷ ms) = target (m .move) s (keyAfter s ms) (entriesOf (m .tables))
+
+-- the rows that they show, the last one first
+abbrev pub rowsBy : ℕ → List Moment → List (Maybe Row)
+rowsBy s [] = []
+rowsBy s (m ∷ ms) = rowAt s (keyAfter s (m ∷ ms)) (entriesOf (m .tables)) ∷ rowsBy s ms
+
+-- these rows seen, with no refusal
+abbrev pub accepted : List (Maybe Row) → List Seen
+accepted [] = []
+accepted (w ∷ ws) = record { refusal = 0; row = w } ∷ accepted ws
+
+-- what is listed with the last one first, from the first one on
+abbrev pub inOrder {ℓ} : {A : Type ℓ} → List A → List A
+inOrder [] = []
+inOrder (x ∷ xs) = inOrder xs ++ (x ∷ [])
+
+-- ---- lookups
 
 -- what the host learns by a lookup in one table: the number of the refusal, or the value that the view's promise gives, deleted, absent
 pub data Learnt : Type 0 where

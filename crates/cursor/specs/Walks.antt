@@ -1,6 +1,7 @@
 -- What a walk keeps and where it ends.
-use Prim.Native.Nat.{ℕ, _-_, _≤_}
+use Prim.Native.Nat.{ℕ, _+_, _-_, _≤_}
 use mathlib.Core.Path.{_≡_}
+use mathlib.Core.Logic.{_⊎_}
 use mathlib.Core.List.{List}
 use mathlib.Core.Bool.{Bool, true, false}
 use lib.Dec.{ltb}
@@ -13,7 +14,7 @@ use Rattle.rule.specs.Nearest.{Least}
 use Rattle.image.specs.Sound.{Sound}
 use Rattle.image.specs.Cuts.{Cut, cmpOf, admits, pastOf}
 use Rattle.cursor.specs.Places.{all, entryAt, keyAt, PlaceIn, PlaceReads}
-use Rattle.cursor.specs.Merging.{MetIn, MeetingIn, FirstAsNew}
+use Rattle.cursor.specs.Merging.{MeetingIn, NearDamaged, NewestDamaged, FirstAsNew}
 use Rattle.cursor.specs.declared.places.Place.{Place}
 use Rattle.cursor.specs.declared.merging_iter.Meeting.{Meeting}
 use Rattle.cursor.specs.declared.walk.Step.{Step}
@@ -26,7 +27,8 @@ use Rattle.cursor.specs.declared.walk.Spent.the-variants.{Rest, Over}
 use Rattle.cursor.specs.declared.walk.Found.{Found}
 use Rattle.cursor.specs.declared.walk.Found.the-variants as found
 
--- p is the place of the entry that gives the row of k at s; in a tie between the tables it is the first's
+-- p is the place of the entry that gives the row of k at s; in a tie between the tables it is the first's. `newest-is` fixes the entry, and `first` the
+-- table where the very same entry stands in both
 pub record Gives (f g : List ℕ) (s : ℕ) (k : List ℕ) (p : Place) : Type 0 where
   pub inside : PlaceIn f g p
   pub newest-is : newest k s (all f g) ≡ some (entryAt f g p)
@@ -45,16 +47,16 @@ pub record LandsOn (f g : List ℕ) (s : ℕ) (c : Cut) (t : List ℕ) (p : Plac
 -- of the keys behind the cut, the first: it has a row, or none; or there is no such key
 abbrev pub StepRule : List ℕ → List ℕ → ℕ → Cut → List ℕ → Step → Type 0
 StepRule f g s c t (step.Done p) = (k : List ℕ) × Least (cmpOf c) (admits c t) (all f g) (some k) × Gives f g s k p
-StepRule f g s c t (step.Pass m) = Least (cmpOf c) (admits c t) (all f g) (some (keyAt f g (m .place))) × MetIn f g (keyAt f g (m .place)) m × (isSome (row (keyAt f g (m .place)) s (all f g)) ≡ false)
+StepRule f g s c t (step.Pass m) = Least (cmpOf c) (admits c t) (all f g) (some (keyAt f g (m .place))) × (isSome (row (keyAt f g (m .place)) s (all f g)) ≡ false)
 StepRule f g s c t step.End = Least (cmpOf c) (admits c t) (all f g) none
 StepRule f g s c t step.Damaged = ⊥
 
--- what it names on any bytes
+-- what it names on any bytes; damage was met in a question to one of the tables: for the next key, or for the newest entry of the key that is next
 abbrev pub StepIn : List ℕ → List ℕ → ℕ → Cut → List ℕ → Step → Type 0
 StepIn f g s c t (step.Done p) = LandsOn f g s c t p
 StepIn f g s c t (step.Pass m) = MeetingIn f g c t m
 StepIn f g s c t step.End = Unit
-StepIn f g s c t step.Damaged = Unit
+StepIn f g s c t step.Damaged = NearDamaged f g c t ⊎ ((m : Meeting) × MeetingIn f g c t m × NewestDamaged f g (entryAt f g (m .place) .key) s)
 
 -- what a turn promises
 pub record Stepped (f g : List ℕ) (s : ℕ) (c : Cut) (t : List ℕ) (r : Step) : Type 0 where
@@ -97,13 +99,21 @@ Ends f g s (some k) (found.At p) = Gives f g s k p
 Ends f g s (some k) found.Nothing = ⊥
 Ends f g s (some k) found.Damaged = ⊥
 
--- where it ends on any bytes
+-- where it ends on any bytes; damage was met in some turn, so the count is never what ends a walk
 abbrev pub FoundIn : List ℕ → List ℕ → ℕ → Cut → List ℕ → Found → Type 0
 FoundIn f g s c t (found.At p) = LandsOn f g s c t p
 FoundIn f g s c t found.Nothing = Unit
-FoundIn f g s c t found.Damaged = Unit
+FoundIn f g s c t found.Damaged = (at : Reached) × StepIn f g s (cutFrom c at) (keyFrom f g t at) step.Damaged
 
 -- what a walk promises
 pub record Walked (f g : List ℕ) (s : ℕ) (c : Cut) (t : List ℕ) (r : Found) : Type 0 where
   pub rule : Sound f → Sound g → Ends f g s (bestOf f g s c t) r
   pub lands : FoundIn f g s c t r
+
+-- ---- the keys that it passes
+
+-- a string of turns that pass a key, each any answer that the promise of a turn allows from where the one before left off, on any bytes; with how many of the
+-- keys were met in the first table, and in the second
+pub data Passes (f g : List ℕ) (s : ℕ) (c : Cut) (t : List ℕ) : Reached → ℕ → ℕ → Type 0 where
+  start : Passes f g s c t Start 0 0
+  more : {at : Reached} {i j : ℕ} (m : Meeting) → Passes f g s c t at i j → Stepped f g s (cutFrom c at) (keyFrom f g t at) (step.Pass m) → Passes f g s c t (Past (m .place)) (tickOf (m .first) + i) (tickOf (m .second) + j)

@@ -1,5 +1,6 @@
 // The walk of the visible cursor: from a cut on, key after key over both tables, up to the first that has a row. It counts, for
-// each table, the nodes of it that it meets, and gives damage past the table's count; on sound tables it never does.
+// each table, the nodes of it that it meets, and would give damage past the table's count. Each key lies onward of the last, so no
+// bytes that hold still get there: the count shows that the walk ends, and ends it when bytes change under it.
 ghost use mathlib.Core.Path.{_≡_};
 ghost use Rattle.table.specs.Questions.{cutOf};
 ghost use Rattle.cursor.specs.Walks.{Stepped, cutFrom, keyFrom, tickOf, spentOf, Walked};
