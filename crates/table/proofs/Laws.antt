@@ -86,19 +86,19 @@ past-past below = refl
 
 -- each move's target is the best behind a cut
 module _ (s : ℕ) (es : List Entry) where
-  pub first-behind : (t : List ℕ) (k : Maybe (List ℕ)) → target first s k es ≡ best (λ a b. isLess (cmpOf all a b)) (admits all t) s es es
+  pub first-behind : (t : List ℕ) (k : Maybe (List ℕ)) → target first s k es ≡ best (λ a b. isLess (cmpOf all a b)) (admits all t) s es
   first-behind t k = refl
 
-  pub seek-behind : (t : List ℕ) (k : Maybe (List ℕ)) → target (seek t) s k es ≡ best (λ a b. isLess (cmpOf from a b)) (admits from t) s es es
+  pub seek-behind : (t : List ℕ) (k : Maybe (List ℕ)) → target (seek t) s k es ≡ best (λ a b. isLess (cmpOf from a b)) (admits from t) s es
   seek-behind t k = refl
 
-  pub next-behind : (k : List ℕ) → target next s (some k) es ≡ best (λ a b. isLess (cmpOf above a b)) (admits above k) s es es
+  pub next-behind : (k : List ℕ) → target next s (some k) es ≡ best (λ a b. isLess (cmpOf above a b)) (admits above k) s es
   next-behind k = refl
 
-  pub next-nowhere : (t : List ℕ) → target next s none es ≡ best (λ a b. isLess (cmpOf all a b)) (admits all t) s es es
+  pub next-nowhere : (t : List ℕ) → target next s none es ≡ best (λ a b. isLess (cmpOf all a b)) (admits all t) s es
   next-nowhere t = refl
 
-  pub previous-behind : (k : List ℕ) → target previous s (some k) es ≡ best (λ a b. isLess (cmpOf below a b)) (admits below k) s es es
+  pub previous-behind : (k : List ℕ) → target previous s (some k) es ≡ best (λ a b. isLess (cmpOf below a b)) (admits below k) s es
   previous-behind k = refl
 
 -- ---- lookups
