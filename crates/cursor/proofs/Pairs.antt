@@ -116,7 +116,8 @@ module _ (f g k : List ℕ) (s : ℕ) where
       (c, rw (header-complete f (x .header), header-complete g (y .header), ea, eb) ec, tc)
     where
       go : (u v : Looked) (m n : ℕ) → Tells f k s u → Tells g k s v
-          → (c : PairLooked) × (cond (isSaid u) (given (record { says = saysIn First u; looks = 0 + m })) (given (record { says = saysIn Second v; looks = m + n })) ≡ given c) × TellsPair f g k s (c .says)
+          → (c : PairLooked) × (cond (isSaid u) (given (record { says = saysIn First u; looks = 0 + m })) (given (record { says = saysIn Second v; looks = m + n })) ≡ given c)
+          × TellsPair f g k s (c .says)
       go (one.found i) v m n t w = (_, refl, t)
       go one.deleted v m n t w = (_, refl, inl t)
       go one.absent (one.found j) m n t w = (_, refl, (t, w))

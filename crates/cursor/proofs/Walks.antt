@@ -119,7 +119,7 @@ behind-key c d u k e a l h = onward d u k l a (ap (λ (q : List ℕ → Bool). q
 module _ (c d : Cut) (u k : List ℕ) (e : pastOf d ≡ pastOf c) where
   -- without a row the search goes on behind it
   best-on : (s : ℕ) (es : List Entry) → Least (cmpOf d) (admits d u) es (some k) → isSome (row k s es) ≡ false
-      → best (λ a b. isLess (cmpOf d a b)) (admits d u) s es es ≡ best (λ a b. isLess (cmpOf (pastOf c) a b)) (admits (pastOf c) k) s es es
+      → best (λ a b. isLess (cmpOf d a b)) (admits d u) s es ≡ best (λ a b. isLess (cmpOf (pastOf c) a b)) (admits (pastOf c) k) s es
   best-on s es least h = best-past (cmpOf d) (way d) s es (admits d u) k least (onward d u) h ∙ rw (← past-admits d k, ← past-way d, e)
 
   -- a table that has the key has one entry less behind the cut, and none has more

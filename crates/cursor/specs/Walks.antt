@@ -88,7 +88,7 @@ spentOf l m = cond (ltb (l .first) (tickOf (m .first))) Over (cond (ltb (l .seco
 
 -- of the keys behind the cut that have a row, the one that comes first
 abbrev pub bestOf : List ℕ → List ℕ → ℕ → Cut → List ℕ → Maybe (List ℕ)
-bestOf f g s c t = best (λ a b. isLess (cmpOf c a b)) (admits c t) s (all f g) (all f g)
+bestOf f g s c t = best (λ a b. isLess (cmpOf c a b)) (admits c t) s (all f g)
 
 -- the place that gives the row of the key, or that there is none
 abbrev pub Ends : List ℕ → List ℕ → ℕ → Maybe (List ℕ) → Found → Type 0

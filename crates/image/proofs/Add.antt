@@ -135,7 +135,8 @@ module _ (xs : List ℕ) (s : Sound xs) (e : Entry) (h : ℕ) where
       node-equal : (x : ℕ) → Duplicates (entryOf xs x) e → probe (entryOf xs) k n x ≡ equal
       node-equal x d = rw (d .0, d .1) (entries .same (k, n))
 
-      unequal : (pre post : List ℕ) → All (λ x. passTest xs toStop k n x ≡ true) pre → All (λ x. stopTest xs toStop k n x ≡ false) post → (x : ℕ) → List·Memᴰ x (pre ++ post) → Duplicates (entryOf xs x) e → ⊥
+      unequal : (pre post : List ℕ) → All (λ x. passTest xs toStop k n x ≡ true) pre → All (λ x. stopTest xs toStop k n x ≡ false) post
+          → (x : ℕ) → List·Memᴰ x (pre ++ post) → Duplicates (entryOf xs x) e → ⊥
       unequal pre post p q x m d = ⊎-elim (λ i. true≢false (sym (p x i) ∙ ap (λ (o : Ord). isOnward (turnBy toStop o)) (node-equal x d)))
           (λ i. true≢false (ap (λ (o : Ord). isHalt (turnBy toStop o)) (sym (node-equal x d)) ∙ q x i)) (List·Memᴰ·append-cases pre m)
 

@@ -4,7 +4,7 @@ use native.Mathlib.Omega.{arith}
 use mathlib.Core.Path.{_≡_, refl}
 use mathlib.Core.List.{List, [], _∷_}
 use mathlib.Core.Bool.{Bool, true, false}
-use lib.ListN.{set, replicate}
+use lib.ListN.{length, set, replicate}
 use lib.Dec.{ltb}
 use borrow.Author.Tests.{ltb-true}
 use Rattle.rule.specs.Lists.{both, All}
@@ -16,14 +16,26 @@ use Rattle.image.specs.Entries.{encode, lenAt, keyedAt, restAt}
 use Rattle.image.specs.Nodes.{leadAt, heightOf, entryOf, linkOf}
 use Rattle.image.specs.Sound.{headerHolds, Sound, held}
 use Rattle.image.specs.Search.{find, look}
-use Rattle.image.specs.Refusals.{duplicate, damaged, noNode, refused, given}
+use Rattle.image.specs.Refusals.{noRoom, duplicate, damaged, noNode, refused, given}
 use Rattle.image.specs.Fresh.{freshImage}
 use Rattle.image.specs.Add.{nodeWritten, written, add, afterwards}
 use Rattle.image.specs.Lookup.{found, deleted, absent, get, presence}
 use Rattle.image.specs.EntryMoves.{nowhere, on, first, seek, next, previous, entryMove, partsOn, viewed, keyView, valueView}
 use Rattle.image.specs.Check.{isSound}
-use Rattle.image.specs.BootBench.{put, gone, a, b, c, w, x, y, v, Right, cases}
+use Rattle.image.specs.BootBench.{put, gone, a, b, c, w, x, y, v, p11, Right, cases}
 use Rattle.image.proofs.Check.{check-sound}
+
+-- ---- what holds of every list of a length holds of the list of as many variables
+
+abbrev Every : ℕ → (List ℕ → Type 0) → Type 0
+Every zero P = P []
+Every (suc n) P = (z : ℕ) → Every n (λ zs. P (z ∷ zs))
+
+every-list : (n : ℕ) (P : List ℕ → Type 0) → Every n P → (xs : List ℕ) → length xs ≡ n → P xs
+every-list zero P p [] e = p
+every-list zero P p (z ∷ zs) e = absurd (omega arith)
+every-list (suc n) P p [] e = absurd (omega arith)
+every-list (suc n) P p (z ∷ zs) e = every-list n (λ ys. P (z ∷ ys)) (p z) zs (omega arith)
 
 -- P1 to P12
 pub boot-bench : All Right cases
@@ -33,7 +45,13 @@ boot-bench =
     (all-cons refl (all-cons refl (all-cons refl
     (all-cons (refl, (refl, (refl, tt))) (all-cons (refl, tt)
     (all-cons refl (all-cons refl
-    (all-cons refl (all-cons refl (all-nil Right))))))))))))))
+    (all-cons
+    (every-list 92 (λ xs. add (freshImage xs) (put a 1 x) 1 ≡ given (record { node = 1; image = p11 }))
+    (λ _ _ _ _ _ _ _ _ _ _ _ _ _ _ _ _ _ _ _ _ _ _ _ _ _ _ _ _ _ _ _ _ _ _ _ _ _ _ _ _ _ _ _ _ _ _ _ _ _ _ _ _ _ _ _ _ _ _ _ _ _ _ _ _ _ _ _ _ _ _ _ _ _ _ _ _ _ _ _ _ _ _ _ _ _ _ _ _ _ _ _ _. refl))
+    (all-cons
+    (every-list 91 (λ xs. add (freshImage xs) (put a 1 x) 1 ≡ refused noRoom)
+    (λ _ _ _ _ _ _ _ _ _ _ _ _ _ _ _ _ _ _ _ _ _ _ _ _ _ _ _ _ _ _ _ _ _ _ _ _ _ _ _ _ _ _ _ _ _ _ _ _ _ _ _ _ _ _ _ _ _ _ _ _ _ _ _ _ _ _ _ _ _ _ _ _ _ _ _ _ _ _ _ _ _ _ _ _ _ _ _ _ _ _ _. refl))
+    (all-nil Right))))))))))))))
 
 -- ---- table T, added in another order and with mixed heights
 

@@ -21,11 +21,11 @@ use Rattle.image.specs.Readers.{Read, got, bad}
 use Rattle.image.specs.Entries.{encode, entryIn}
 use Rattle.image.specs.Nodes.{count, free, slot, Node, nodeAt, entryPlace, NodeIs, heightOf, entryOf, entryFrom, linkOf}
 use Rattle.image.specs.Chains.{tall, chain}
-use Rattle.image.specs.Sound.{Sound, headerHolds, placeOf, sizeAt}
+use Rattle.image.specs.Sound.{lowest, Sound, headerHolds, placeOf, sizeAt}
 use Rattle.image.specs.Check.{ifRead, nodesRun, allMeet, stepped, mayFollow, threads, heads, isSound}
 use Rattle.image.proofs.Nodes.{node-read, node-sound}
 use Rattle.image.proofs.Chains.{tall-keep, tall-skip}
-use Rattle.image.proofs.Sound.{header-sound, header-complete, place-slot, place-free}
+use Rattle.image.proofs.Sound.{header-sound, header-complete, place-slot, place-free, lowest-full, sound-by}
 
 -- from node i on, which starts at o, the nodes stand one behind the other
 pub record Run (xs : List ℕ) (i o : ℕ) : Type 0 where
@@ -193,17 +193,12 @@ check-sound xs b e =
     let h = header-sound xs e1 in
     let r = run-sound xs (count xs) 1 headerSize b (omega (arith, h .high)) (omega arith) e3 in
     let t = threads-sound xs (λ i p q. let n = r .reads i p q in (n .height-some, n .height-most)) (count xs) 0 (heads xs) (length-stepped xs 0 (replicate levels 0) levels) e4 in
-    record {
-      header = h;
-      begins = r .starts;
-      follows = r .follows;
-      reads = r .reads;
-      sequence = t .rest;
+    sound-by xs (t .rest) h (r .starts) (r .follows) (r .reads) (record {
       within = t .within;
       full = t .full;
       ascending = t .ascending;
       chained = λ l k. rw (stepped-on xs 0 (replicate levels 0) levels (omega arith) l k) at (t .threaded l k);
-    }
+    })
 
 pub check-complete : (xs : List ℕ) → Sound xs → isSound xs ≡ true
 check-complete xs s = rw (header-complete xs (s .header), run) walk
@@ -212,7 +207,8 @@ check-complete xs s = rw (header-complete xs (s .header), run) walk
     run = rw (← s .begins) (run-complete xs s (count xs) 1 (omega arith) (omega arith))
 
     walk : threads xs (count xs) 0 (heads xs) ≡ true
-    walk = rw (← s .full) (threads-complete xs (λ i p q. let n = s .reads i p q in (n .height-some, n .height-most)) (s .sequence) 0 (heads xs) (length-stepped xs 0 (replicate levels 0) levels) (s .within) (s .ascending) (λ z. absurd (z refl))
+    walk = rw (← lowest-full xs) (threads-complete xs (λ i p q. let n = s .reads i p q in (n .height-some, n .height-most)) (lowest xs) 0 (heads xs)
+        (length-stepped xs 0 (replicate levels 0) levels) (s .within) (s .ascending) (λ z. absurd (z refl))
         (λ l k. rw (stepped-on xs 0 (replicate levels 0) levels (omega arith) l k) (s .chained l k)))
 
 pub check-exact : (xs : List ℕ) → Bytes xs → T (isSound xs) ↔ Sound xs

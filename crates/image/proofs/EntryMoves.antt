@@ -16,7 +16,7 @@ use Rattle.image.specs.Limits.{maxKey, maxNumber, levels}
 use Rattle.image.specs.Readers.{got}
 use Rattle.image.specs.Entries.{entryIn, compareKeyed}
 use Rattle.image.specs.Nodes.{count, Node, nodeAt, heightOf, entryOf, linkPlace, linkOf}
-use Rattle.image.specs.Sound.{Sound, held}
+use Rattle.image.specs.Sound.{lowest, Sound, held}
 use Rattle.image.specs.Search.{toStop, toGoDown, turnBy, Found, hit, ends, standing, passed}
 use Rattle.image.specs.Refusals.{given}
 use Rattle.image.specs.EntryMoves.{Cursor, nowhere, on, cursorAt, inTable, EntryMove, first, seek, next, previous, follow, landing, landingAfter, firstEntry, lastBefore, moved, entryMove}
@@ -41,10 +41,10 @@ module _ (xs : List ℕ) (s : Sound xs) where
   Ahead x y = order (entryOf xs x) (entryOf xs y) ≡ less
 
   -- what holds of the nodes in order holds of the entries held
-  all-held : (P : Entry → Type 0) → All (λ x. P (entryOf xs x)) (s .sequence) → All P (held xs)
+  all-held : (P : Entry → Type 0) → All (λ x. P (entryOf xs x)) (lowest xs) → All P (held xs)
   all-held P h e m = let (i, p, q, f) = held-from xs (count xs) e m in rw (← f) (h i (everywhere xs s i p q))
 
-  node-in : (x : ℕ) → List·Memᴰ x (s .sequence) → IsNode xs x
+  node-in : (x : ℕ) → List·Memᴰ x (lowest xs) → IsNode xs x
   node-in x m = let w = s .within x m in record { some = w .0; most = w .1 }
 
   on-node : (x : ℕ) → IsNode xs x → cursorAt x ≡ on x
@@ -54,21 +54,21 @@ module _ (xs : List ℕ) (s : Sound xs) where
   -- ---- a cut that parts the nodes in order
 
   module _ (cmp : Entry → Entry → Ord) (cut : Entry → Bool) where
-    none-there : All (λ x. cut (entryOf xs x) ≡ false) (s .sequence) → Foremost cmp cut xs nowhere
+    none-there : All (λ x. cut (entryOf xs x) ≡ false) (lowest xs) → Foremost cmp cut xs nowhere
     none-there h = all-held (λ e. cut e ≡ true → ⊥) (λ x m t. true≢false (sym t ∙ h x m))
 
-    one-there : (a : List ℕ) (y : ℕ) (b : List ℕ) → s .sequence ≡ a ++ (y ∷ b) → cut (entryOf xs y) ≡ true → isLess (cmp (entryOf xs y) (entryOf xs y)) ≡ false
+    one-there : (a : List ℕ) (y : ℕ) (b : List ℕ) → lowest xs ≡ a ++ (y ∷ b) → cut (entryOf xs y) ≡ true → isLess (cmp (entryOf xs y) (entryOf xs y)) ≡ false
         → All (λ x. cut (entryOf xs x) ≡ true → isLess (cmp (entryOf xs x) (entryOf xs y)) ≡ false) a → All (λ x. cut (entryOf xs x) ≡ true → isLess (cmp (entryOf xs x) (entryOf xs y)) ≡ false) b
         → Foremost cmp cut xs (cursorAt y)
     one-there a y b e t r h k = let n = node-in y (rw e (Memᴰ·append-right a here)) in
         rw (on-node y n) (n, t, all-held (λ f. cut f ≡ true → isLess (cmp f (entryOf xs y)) ≡ false) (rw e (all-append a (y ∷ b) h (all-cons (λ _. r) k))))
 
   -- upward it stands at the first node that the cut admits, downward at the last
-  module _ (cut : Entry → Bool) (pre post : List ℕ) (split : s .sequence ≡ pre ++ post) where
+  module _ (cut : Entry → Bool) (pre post : List ℕ) (split : lowest xs ≡ pre ++ post) where
     pub foremost-first : All (λ x. cut (entryOf xs x) ≡ false) pre → All (λ x. cut (entryOf xs x) ≡ true) post → Foremost order cut xs (cursorAt (chains.first post))
     foremost-first n y = go post split y
       where
-        go : (post : List ℕ) → s .sequence ≡ pre ++ post → All (λ x. cut (entryOf xs x) ≡ true) post → Foremost order cut xs (cursorAt (chains.first post))
+        go : (post : List ℕ) → lowest xs ≡ pre ++ post → All (λ x. cut (entryOf xs x) ≡ true) post → Foremost order cut xs (cursorAt (chains.first post))
         go [] e y = none-there order cut (rw e (all-append pre [] n (all-nil _)))
         go (z ∷ zs) e y = one-there order cut pre z zs e (y z here) (order-same (entryOf xs z)) (λ x m t. absurd (true≢false (sym t ∙ n x m)))
             (λ x m t. order-flip (entryOf xs z) (entryOf xs x) ((pairwise-middle Ahead pre z zs (rw e at (s .ascending))) .1 x m))
@@ -84,7 +84,8 @@ module _ (xs : List ℕ) (s : Sound xs) where
             more z l (inl e) = ([], z, ap {B = List ℕ} (λ r. z ∷ r) e)
             more z l (inr (a, w, e)) = (z ∷ a, w, ap {B = List ℕ} (λ r. z ∷ r) e)
 
-        go : (l : List ℕ) → s .sequence ≡ l ++ post → All (λ x. cut (entryOf xs x) ≡ true) l → (l ≡ []) ⊎ ((a : List ℕ) × (z : ℕ) × (l ≡ a ++ (z ∷ []))) → Foremost (λ e f. order f e) cut xs (cursorAt (last 0 l))
+        go : (l : List ℕ) → lowest xs ≡ l ++ post → All (λ x. cut (entryOf xs x) ≡ true) l → (l ≡ []) ⊎ ((a : List ℕ) × (z : ℕ) × (l ≡ a ++ (z ∷ [])))
+            → Foremost (λ e f. order f e) cut xs (cursorAt (last 0 l))
         go l e y (inl f) = rw f (none-there (λ e f. order f e) cut (rw (e, f) n))
         go l e y (inr (a, z, f)) = rw (f, last-middle 0 a z []) (one-there (λ e f. order f e) cut a z post (rw (e, f) (append-assoc a (z ∷ []) post)) (y z (rw f (Memᴰ·append-right a here))) (order-same (entryOf xs z))
             (λ x m t. order-flip (entryOf xs x) (entryOf xs z) ((pairwise-middle Ahead a z post (rw (e, f, append-assoc a (z ∷ []) post) at (s .ascending))) .0 x m)) (λ x m t. absurd (true≢false (sym t ∙ n x m))))
@@ -92,22 +93,22 @@ module _ (xs : List ℕ) (s : Sound xs) where
   -- ---- the moves
 
   -- the lowest link of the head leads to the first node, and that of a node to the next
-  follow-to : (x : ℕ) (post : List ℕ) → (x ≡ 0) ⊎ (List·Memᴰ x (s .sequence) × (0 < heightOf xs x)) → linkOf xs x 0 ≡ chains.first post → follow xs x ≡ got (cursorAt (chains.first post))
-  follow-to x post h e = go (link-lands levels (heightOf xs) (linkOf xs) (s .sequence) (linked xs s) 0 (omega arith) x h)
+  follow-to : (x : ℕ) (post : List ℕ) → (x ≡ 0) ⊎ (List·Memᴰ x (lowest xs) × (0 < heightOf xs x)) → linkOf xs x 0 ≡ chains.first post → follow xs x ≡ got (cursorAt (chains.first post))
+  follow-to x post h e = go (link-lands levels (heightOf xs) (linkOf xs) (lowest xs) (linked xs s) 0 (omega arith) x h)
     where
-      low : {y : ℕ} → (y ≡ 0) ⊎ (List·Memᴰ y (s .sequence) × (0 < heightOf xs y)) → y ≤ count xs
+      low : {y : ℕ} → (y ≡ 0) ⊎ (List·Memᴰ y (lowest xs) × (0 < heightOf xs y)) → y ≤ count xs
       low (inl z) = omega arith
       low (inr (m, _)) = (s .within _ m) .1
 
-      go : (linkOf xs x 0 ≡ 0) ⊎ (List·Memᴰ (linkOf xs x 0) (s .sequence) × (0 < heightOf xs (linkOf xs x 0))) → follow xs x ≡ got (cursorAt (chains.first post))
+      go : (linkOf xs x 0 ≡ 0) ⊎ (List·Memᴰ (linkOf xs x 0) (lowest xs) × (0 < heightOf xs (linkOf xs x 0))) → follow xs x ≡ got (cursorAt (chains.first post))
       go l = rw (le-leb (linkOf xs x 0) (count xs) (low l), e)
 
-  start : (d : Cursor) → d ≡ cursorAt (chains.first (s .sequence)) → Foremost order (λ e. true) xs d
-  start d e = rw e (foremost-first (λ e. true) [] (s .sequence) refl (all-nil _) (λ x m. refl))
+  start : (d : Cursor) → d ≡ cursorAt (chains.first (lowest xs)) → Foremost order (λ e. true) xs d
+  start d e = rw e (foremost-first (λ e. true) [] (lowest xs) refl (all-nil _) (λ x m. refl))
 
   -- from the head the first node is met
-  pub follow-head : follow xs 0 ≡ got (cursorAt (chains.first (s .sequence)))
-  follow-head = follow-to 0 (s .sequence) (inl refl) ((linked xs s) .start 0 (omega arith) ∙ ap chains.first (tall-all (heightOf xs) 0 (s .sequence) (positive xs s)))
+  pub follow-head : follow xs 0 ≡ got (cursorAt (chains.first (lowest xs)))
+  follow-head = follow-to 0 (lowest xs) (inl refl) ((linked xs s) .start 0 (omega arith) ∙ ap chains.first (tall-all (heightOf xs) 0 (lowest xs) (positive xs s)))
 
   -- every node can be read whole, so a move may end on it
   pub landing-sound : (d : Cursor) → Stands xs d → landing xs d ≡ got d
@@ -118,8 +119,8 @@ module _ (xs : List ℕ) (s : Sound xs) where
   foremost-stands cmp cut nowhere f = tt
   foremost-stands cmp cut (on i) f = f .0
 
-  pub first-is : firstEntry xs ≡ got (cursorAt (chains.first (s .sequence)))
-  first-is = let d = cursorAt (chains.first (s .sequence)) in rw follow-head (landing-sound d (foremost-stands order (λ e. true) d (start d refl)))
+  pub first-is : firstEntry xs ≡ got (cursorAt (chains.first (lowest xs)))
+  first-is = let d = cursorAt (chains.first (lowest xs)) in rw follow-head (landing-sound d (foremost-stands order (λ e. true) d (start d refl)))
 
   -- behind an entry that comes before the one that it stands on
   landing-after : (i : ℕ) (m : Node) → entryIn xs (m .parts) ≡ entryOf xs i → (o : ℕ) (d : Cursor) → Foremost order (λ e. isLess (order (entryOf xs i) e)) xs d → landingAfter xs (m .parts .keyed) o d ≡ got d
@@ -132,7 +133,7 @@ module _ (xs : List ℕ) (s : Sound xs) where
   step : (i : ℕ) → IsNode xs i → (d : Cursor) × (moved xs next (on i) ≡ got d) × Foremost order (λ e. isLess (order (entryOf xs i) e)) xs d
   step i n = let m = everywhere xs s i (n .some) (n .most) in let (a, b, e) = mem-split m in go a b e m
     where
-      go : (a b : List ℕ) → s .sequence ≡ a ++ (i ∷ b) → List·Memᴰ i (s .sequence) → (d : Cursor) × (moved xs next (on i) ≡ got d) × Foremost order (λ e. isLess (order (entryOf xs i) e)) xs d
+      go : (a b : List ℕ) → lowest xs ≡ a ++ (i ∷ b) → List·Memᴰ i (lowest xs) → (d : Cursor) × (moved xs next (on i) ≡ got d) × Foremost order (λ e. isLess (order (entryOf xs i) e)) xs d
       go a b e m = (cursorAt (chains.first b), rw (node .1, follows) (landing-after i (node .0) (node .2) (linkPlace xs i 0) (cursorAt (chains.first b)) foremost), foremost)
         where
           node : (t : Node) × (nodeAt xs i ≡ got t) × (entryIn xs (t .parts) ≡ entryOf xs i)
@@ -185,9 +186,9 @@ module _ (xs : List ℕ) (s : Sound xs) where
       goes q h = rw (q .search) (landing-sound (cursorAt (passed (q .found))) h)
 
   moved-leads : (m : EntryMove) (c : Cursor) → Stands xs c → (d : Cursor) × (moved xs m c ≡ got d) × Leads xs m c d
-  moved-leads first c h = (cursorAt (chains.first (s .sequence)), first-is, start _ refl)
+  moved-leads first c h = (cursorAt (chains.first (lowest xs)), first-is, start _ refl)
   moved-leads (seek k n) c h = let q = search-sound xs s toStop k n in let f = sought k n q in let d = cursorAt (standing (q .found)) in (d, rw (q .search) (landing-sound d (foremost-stands order (λ e. not (isLess (compareEntries (e .key) (e .number) k n))) d f)), f)
-  moved-leads next nowhere h = (cursorAt (chains.first (s .sequence)), first-is, start _ refl)
+  moved-leads next nowhere h = (cursorAt (chains.first (lowest xs)), first-is, start _ refl)
   moved-leads next (on i) h = step i h
   moved-leads previous nowhere h = (nowhere, refl, refl)
   moved-leads previous (on i) h = back i h

@@ -10,8 +10,9 @@ use Rattle.rule.proofs.Lists.{all-nil}
 use Rattle.image.specs.Limits.{headerSize, maxImage, levels}
 use Rattle.image.specs.Words.{Holds, word, fixed, bytes}
 use Rattle.image.specs.Nodes.{count, free, linkOf}
-use Rattle.image.specs.Sound.{Sound, held}
+use Rattle.image.specs.Sound.{Header, Sound, held}
 use Rattle.image.specs.Fresh.{freshHeader, freshImage}
+use Rattle.image.proofs.Sound.{sound-by}
 use Rattle.image.proofs.Words.{holds-left, holds-right, holds-word, sets-holds, sets-same}
 
 zeros-hold : (xs : List ℕ) (o n i : ℕ) → Holds xs o (replicate n 0) → o ≤ i → i < o + n → getD xs i 0 ≡ 0
@@ -50,17 +51,19 @@ fresh-header xs n b h =
 
 -- an image with a fresh header is sound and empty
 header-sound : (ys : List ℕ) → headerSize ≤ length ys → length ys ≤ maxImage → FreshHeader ys (length ys) → Sound ys
-header-sound ys lo hi f = record {
-  header = record { long = lo; short = hi; total = f .total; leveled = f .leveled; few = omega (arith, f .none); low = omega (arith, f .empty); high = omega (arith, f .none, f .empty) };
-  begins = rw (f .none) (f .empty);
-  follows = λ i p q. absurd (omega (arith, f .none));
-  reads = λ i p q. absurd (omega (arith, f .none));
-  sequence = [];
-  within = all-nil _;
-  full = sym (f .none);
-  ascending = tt;
-  chained = λ l k. f .heads l k;
-}
+header-sound ys lo hi f = sound-by ys [] header (rw (f .none) (f .empty)) (λ i p q. absurd (omega (arith, f .none))) (λ i p q. absurd (omega (arith, f .none)))
+    (record { within = all-nil _; full = sym (f .none); ascending = tt; chained = λ l k. f .heads l k })
+  where
+    header : Header ys
+    header = record {
+      long = lo;
+      short = hi;
+      total = f .total;
+      leveled = f .leveled;
+      few = omega (arith, f .none);
+      low = omega (arith, f .empty);
+      high = omega (arith, f .none, f .empty);
+    }
 
 pub fresh-sound : (xs : List ℕ) → headerSize ≤ length xs → length xs ≤ maxImage → Sound (freshImage xs)
 fresh-sound xs lo hi = go (freshImage xs) (length-sets xs 0 (freshHeader (length xs))) (sets-holds xs 0 (freshHeader (length xs)) lo)

@@ -16,14 +16,14 @@ use Rattle.image.specs.Words.{word}
 use Rattle.image.specs.Entries.{Legal, encode}
 use Rattle.image.specs.Nodes.{count, free, slot, sizeOf, NodeIs, heightOf, entryOf, linkPlace, linkOf}
 use Rattle.image.specs.Chains.{tall}
-use Rattle.image.specs.Sound.{Sound, Header, placeOf, sizeAt, held, heldUpTo}
+use Rattle.image.specs.Sound.{lowest, Sound, Header, placeOf, sizeAt, held, heldUpTo}
 use Rattle.image.specs.Add.{withEntry}
 use Rattle.image.specs.Added.{Added}
 use Rattle.image.proofs.Words.{word-same}
 use Rattle.image.proofs.Nodes.{links-node, height-is, entry-is, node-kept}
 use Rattle.image.proofs.Chains.{last, last-mem, tall-mem, tall-ext, Linked, linked-chained, link-lands}
 use Rattle.image.proofs.Insert.{Inserted, insert-linked, linked-ext, linked-last}
-use Rattle.image.proofs.Sound.{place-slot, place-free, ends-free, linked, pairwise-ext}
+use Rattle.image.proofs.Sound.{place-slot, place-free, lowest-full, sound-by, ends-free, linked, pairwise-ext}
 use Rattle.image.proofs.Links.{Lands, place-low, place-high, link-apart, link-outside}
 use Rattle.image.proofs.Probe.{before, exact, insert-ascending}
 use Rattle.image.proofs.Write.{Fits, Written, is-written}
@@ -36,18 +36,18 @@ pub record Room (xs : List ℕ) (e : Entry) (h : ℕ) : Type 0 where
   pub more : count xs < maxNodes
   pub space : 12 + 4 * h + length (encode e) ≤ length xs - 4 * count xs - free xs
 
-module _ (xs : List ℕ) (s : Sound xs) (e : Entry) (h : ℕ) (room : Room xs e h) (prev pre post : List ℕ) (split : s .sequence ≡ pre ++ post)
+module _ (xs : List ℕ) (s : Sound xs) (e : Entry) (h : ℕ) (room : Room xs e h) (prev pre post : List ℕ) (split : lowest xs ≡ pre ++ post)
     (recorded : (l : ℕ) → l < h → getD prev l 0 ≡ last 0 (tall (heightOf xs) l pre)) where
-  pred-mem : (l : ℕ) → l < h → (getD prev l 0 ≡ 0) ⊎ (List·Memᴰ (getD prev l 0) (s .sequence) × (l < heightOf xs (getD prev l 0)))
+  pred-mem : (l : ℕ) → l < h → (getD prev l 0 ≡ 0) ⊎ (List·Memᴰ (getD prev l 0) (lowest xs) × (l < heightOf xs (getD prev l 0)))
   pred-mem l k = rw (recorded l k) (⊎-elim inl (λ m. let (a, b) = tall-mem (heightOf xs) l pre _ m in inr (rw split (Memᴰ·append-left post a), b)) (List·Memᴰ·cases-cons (last-mem 0 (tall (heightOf xs) l pre))))
 
   pred-lands : (l : ℕ) → l < h → Lands xs (getD prev l 0) l
   pred-lands l k = ⊎-elim inl (λ (m, b). let w = s .within _ m in inr (w .0, w .1, b)) (pred-mem l k)
 
   link-value : (l : ℕ) → l < h → linkOf xs (getD prev l 0) l ≤ count xs
-  link-value l k = go (link-lands levels (heightOf xs) (linkOf xs) (s .sequence) (linked xs s) l (omega (arith, room .high)) (getD prev l 0) (pred-mem l k))
+  link-value l k = go (link-lands levels (heightOf xs) (linkOf xs) (lowest xs) (linked xs s) l (omega (arith, room .high)) (getD prev l 0) (pred-mem l k))
     where
-      go : {x : ℕ} → (x ≡ 0) ⊎ (List·Memᴰ x (s .sequence) × (l < heightOf xs x)) → x ≤ count xs
+      go : {x : ℕ} → (x ≡ 0) ⊎ (List·Memᴰ x (lowest xs) × (l < heightOf xs x)) → x ≤ count xs
       go (inl z) = omega arith
       go (inr (m, b)) = (s .within _ m) .1
 
@@ -221,17 +221,21 @@ module _ (xs : List ℕ) (s : Sound xs) (e : Entry) (h : ℕ) (room : Room xs e 
         (λ x m. rw (old-same x (Memᴰ·append-right pre m)) (differs x m))
 
     sound-ys : Sound ys
-    sound-ys = record {
-      header = header-ys;
-      begins = place-slot ys 1 (omega (arith, w .count-is)) ∙ starts 1 (omega arith) (omega arith) ∙ s .begins;
-      follows = λ i p r. follows-ys i p (omega (arith, w .count-is));
-      reads = λ i p r. reads-ys i p (omega (arith, w .count-is));
-      sequence = pre ++ (suc (count xs) ∷ post);
-      within = rw (w .count-is) (all-append pre (suc (count xs) ∷ post) (λ x m. let b = in-both x (Memᴰ·append-left post m) in (b .0, omega arith)) (all-cons (omega arith, omega arith) (λ x m. let b = in-both x (Memᴰ·append-right pre m) in (b .0, omega arith))));
-      full = omega (arith, w .count-is, length-append pre (suc (count xs) ∷ post), length-append pre post, ap length split, s .full);
+    sound-ys = sound-by ys (pre ++ (suc (count xs) ∷ post)) header-ys begins (λ i p r. follows-ys i p (omega (arith, w .count-is))) (λ i p r. reads-ys i p (omega (arith, w .count-is))) (record {
+      within = rw (w .count-is) (all-append pre (suc (count xs) ∷ post) front (all-cons (omega arith, omega arith) back));
+      full = omega (arith, w .count-is, length-append pre (suc (count xs) ∷ post), length-append pre post, ap length split, lowest-full xs);
       ascending = ascending-ys;
       chained = linked-chained levels (heightOf ys) (linkOf ys) (pre ++ (suc (count xs) ∷ post)) linked-new;
-    }
+    })
+      where
+        begins : placeOf ys 1 ≡ headerSize
+        begins = place-slot ys 1 (omega (arith, w .count-is)) ∙ starts 1 (omega arith) (omega arith) ∙ s .begins
+
+        front : All (λ x. (1 ≤ x) × (x ≤ suc (count xs))) pre
+        front x m = let b = in-both x (Memᴰ·append-left post m) in (b .0, omega arith)
+
+        back : All (λ x. (1 ≤ x) × (x ≤ suc (count xs))) post
+        back x m = let b = in-both x (Memᴰ·append-right pre m) in (b .0, omega arith)
 
     pub entry-added : Added xs e h (withEntry xs e h prev)
     unfolding ys

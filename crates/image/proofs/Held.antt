@@ -13,7 +13,7 @@ use Rattle.rule.specs.Rows.{newest}
 use Rattle.rule.proofs.Rows.{ascending-single, same-newest, front, newest-front}
 use Rattle.rule.proofs.Lists.{here, all-map, pairwise-on, all-right}
 use Rattle.image.specs.Nodes.{count, entryOf}
-use Rattle.image.specs.Sound.{Sound, heldUpTo, held}
+use Rattle.image.specs.Sound.{lowest, Sound, heldUpTo, held}
 use Rattle.image.specs.Search.{OnEqual, turnBy, standing}
 use Rattle.image.proofs.Chains.{first}
 use Rattle.image.proofs.Probe.{probe}
@@ -44,15 +44,15 @@ entryIf xs k (suc i) = cond (isEqual (compareKeys ((entryOf xs (suc i)) .key) k)
 
 module _ (xs : List ℕ) (s : Sound xs) where
   abbrev pub inOrder : List Entry
-  inOrder = map (entryOf xs) (s .sequence)
+  inOrder = map (entryOf xs) (lowest xs)
 
   pub ordered : Ascending inOrder
-  ordered = pairwise-on (entryOf xs) _ (s .sequence) (s .ascending)
+  ordered = pairwise-on (entryOf xs) _ (lowest xs) (s .ascending)
 
   -- the entries by order are those held
   pub held-agree : (t : ℕ) → Agree t inOrder (held xs)
   held-agree t e l = (
-    λ m. let (i, n, f) = Memᴰ·of-map (entryOf xs) (s .sequence) m in let w = s .within i n in Memᴰ·cast (sym f) (held-has xs (count xs) i (w .0) (w .1)),
+    λ m. let (i, n, f) = Memᴰ·of-map (entryOf xs) (lowest xs) m in let w = s .within i n in Memᴰ·cast (sym f) (held-has xs (count xs) i (w .0) (w .1)),
     λ m. let (i, p, q, f) = held-from xs (count xs) e m in Memᴰ·cast (sym f) (Memᴰ·map (entryOf xs) (everywhere xs s i p q)),
   )
 

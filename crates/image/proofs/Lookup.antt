@@ -17,7 +17,7 @@ use Rattle.image.specs.Limits.{maxKey, maxNumber, levels}
 use Rattle.image.specs.Readers.{got}
 use Rattle.image.specs.Entries.{entryIn}
 use Rattle.image.specs.Nodes.{count, free, slot, Node, nodeAt, heightOf, entryOf}
-use Rattle.image.specs.Sound.{Header, headerHolds, Sound, held}
+use Rattle.image.specs.Sound.{Header, headerHolds, lowest, Sound, held}
 use Rattle.image.specs.Search.{toStop, turnBy, Found, hit, ends, searched, looksOf, standing}
 use Rattle.image.specs.Refusals.{badImage, badKind, badNumber, longKey, given}
 use Rattle.image.specs.Lookup.{Looked, found, deleted, absent, Lookup, saysOf, saidAt, get, Presence, heldAt, presence}
@@ -76,7 +76,7 @@ module _ (xs : List ℕ) (s : Sound xs) where
   pub stands-on : (k : List ℕ) (t : ℕ) (q : Searched xs s toStop k t) → (standing (q .found) ≡ 0) ⊎ IsNode xs (standing (q .found))
   stands-on k t q = go (q .behind) (q .split) (q .stands)
     where
-      go : (post : List ℕ) → s .sequence ≡ q .before ++ post → standing (q .found) ≡ first post → (standing (q .found) ≡ 0) ⊎ IsNode xs (standing (q .found))
+      go : (post : List ℕ) → lowest xs ≡ q .before ++ post → standing (q .found) ≡ first post → (standing (q .found) ≡ 0) ⊎ IsNode xs (standing (q .found))
       go [] e f = inl f
       go (y ∷ post) e f = let w = s .within y (rw e (Memᴰ·append-right (q .before) here)) in inr (rw f (record { some = w .0; most = w .1 }))
 

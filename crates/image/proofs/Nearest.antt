@@ -15,7 +15,7 @@ use Rattle.rule.proofs.Nearest.{every-onward, from-onward, past-onward}
 use Rattle.image.specs.Limits.{maxNumber}
 use Rattle.image.specs.Readers.{got}
 use Rattle.image.specs.Nodes.{count, entryOf}
-use Rattle.image.specs.Sound.{Sound}
+use Rattle.image.specs.Sound.{lowest, Sound}
 use Rattle.image.specs.Search.{OnEqual, toStop, toGoDown, toPass, turnBy, Found, hit, ends, standing, passed}
 use Rattle.image.specs.Refusals.{given}
 use Rattle.image.specs.EntryMoves.{Cursor, nowhere, on, cursorAt, firstNotPassed, lastBefore}
@@ -98,7 +98,8 @@ module _ (xs : List ℕ) (s : Sound xs) where
   keyOf x = (entryOf xs x) .key
 
   -- a search for the highest number passes the nodes whose keys are below, if it passes what is less
-  before-pass : (mode : OnEqual) (t : List ℕ) → ((x : ℕ) → passTest xs mode t maxNumber x ≡ isLess (probe (entryOf xs) t maxNumber x)) → All (λ x. passTest xs mode t maxNumber x ≡ isLess (compareKeys (keyOf x) t)) (s .sequence)
+  before-pass : (mode : OnEqual) (t : List ℕ) → ((x : ℕ) → passTest xs mode t maxNumber x ≡ isLess (probe (entryOf xs) t maxNumber x))
+      → All (λ x. passTest xs mode t maxNumber x ≡ isLess (compareKeys (keyOf x) t)) (lowest xs)
   unfolding compareEntries
   before-pass mode t passes x m = let w = s .within x m in passes x ∙ before-key (compareKeys (keyOf x) t) ((entryOf xs x) .number) ((s .reads x (w .0) (w .1)) .legal .number-low)
 
@@ -118,7 +119,8 @@ module _ (xs : List ℕ) (s : Sound xs) where
     nearest-stands (on i) n = n .0
 
     -- where the search passes what the cut leaves out, it stands at the answer
-    upward : (mode : OnEqual) (n : ℕ) → ((e f : Entry) → isLess (order e f) ≡ false → isLess (cmpOf c (e .key) (f .key)) ≡ false) → All (λ x. passTest xs mode t n x ≡ not (admits c t (keyOf x))) (s .sequence)
+    upward : (mode : OnEqual) (n : ℕ) → ((e f : Entry) → isLess (order e f) ≡ false → isLess (cmpOf c (e .key) (f .key)) ≡ false)
+        → All (λ x. passTest xs mode t n x ≡ not (admits c t (keyOf x))) (lowest xs)
         → (d : Cursor) × (firstNotPassed xs mode t n ≡ got d) × NearestIs xs c t d
     upward mode n keeps pass = let q = search-sound xs s mode t n in let p = rw (q .split) at pass in let near = near-at q p in (
       cursorAt (standing (q .found)),
@@ -131,7 +133,7 @@ module _ (xs : List ℕ) (s : Sound xs) where
             (λ x m. not-true _ (sym (all-left (q .before) (q .behind) p x m) ∙ q .passes x m)) (λ x m. not-false _ (sym (all-right (q .before) (q .behind) p x m) ∙ q .refuses x m))))
 
     -- where it passes what the cut admits, the last node passed is the answer
-    downward : (n : ℕ) → ((e f : Entry) → isLess (order f e) ≡ false → isLess (cmpOf c (e .key) (f .key)) ≡ false) → All (λ x. passTest xs toGoDown t n x ≡ admits c t (keyOf x)) (s .sequence)
+    downward : (n : ℕ) → ((e f : Entry) → isLess (order f e) ≡ false → isLess (cmpOf c (e .key) (f .key)) ≡ false) → All (λ x. passTest xs toGoDown t n x ≡ admits c t (keyOf x)) (lowest xs)
         → (d : Cursor) × (lastBefore xs t n ≡ got d) × NearestIs xs c t d
     downward n keeps pass = let q = search-sound xs s toGoDown t n in let near = near-at q (rw (q .split) at pass) in (
       cursorAt (passed (q .found)),
@@ -149,7 +151,8 @@ module _ (xs : List ℕ) (s : Sound xs) where
 
   -- the nearest key behind a cut: never damaged, and the right one
   near-right : (c : Cut) (t : List ℕ) → (d : Cursor) × (nearAt xs c t ≡ got d) × NearestIs xs c t d
-  near-right all t = (cursorAt (first (s .sequence)), first-is xs s, nearest-by all t order key-order (cursorAt (first (s .sequence))) (foremost-first xs s (λ e. true) [] (s .sequence) refl (all-nil _) (λ x m. refl)))
+  near-right all t = let there = foremost-first xs s (λ e. true) [] (lowest xs) refl (all-nil _) (λ x m. refl) in
+      (cursorAt (first (lowest xs)), first-is xs s, nearest-by all t order key-order (cursorAt (first (lowest xs))) there)
   near-right from t = upward from t toStop maxNumber key-order (λ x m. before-pass toStop t (stop-pass xs t maxNumber) x m ∙ sym (not-not (isLess (compareKeys (keyOf x) t))))
     where
       not-not : (b : Bool) → not (not b) ≡ b

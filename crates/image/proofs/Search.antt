@@ -19,12 +19,12 @@ use Rattle.image.specs.Limits.{levels}
 use Rattle.image.specs.Readers.{Read, got, bad, check}
 use Rattle.image.specs.Nodes.{count, free, slot, leadOf, heightOf, entryOf, linkPlace, linkOf}
 use Rattle.image.specs.Chains.{tall}
-use Rattle.image.specs.Sound.{Sound}
+use Rattle.image.specs.Sound.{lowest, Sound}
 use Rattle.image.specs.Added.{HasLink}
 use Rattle.image.specs.Search.{Turn, onward, halt, below, OnEqual, toStop, toGoDown, toPass, turnBy, Found, hit, ends, ask, meet, look, searched, looksOf, standing}
 use Rattle.image.proofs.Readers.{got-same, bind-got, check-got}
 use Rattle.image.proofs.Nodes.{lead-read, node-entry}
-use Rattle.image.proofs.Sound.{linked, nonzero, positive}
+use Rattle.image.proofs.Sound.{lowest-full, linked, nonzero, positive}
 use Rattle.image.proofs.Chains.{first, last, link-lands}
 use Rattle.image.proofs.Machine.{find-keeps, find-looks, Records, find-records}
 use Rattle.image.proofs.SkipSearch as skip
@@ -131,38 +131,40 @@ stop-stop xs k s x = go (probe (entryOf xs) k s x)
 
 -- a look at a link that leads to none or to a node of the sequence says the turn of that node
 module _ (xs : List ℕ) (sound : Sound xs) (mode : OnEqual) (k : List ℕ) (s : ℕ) where
-  look-right : (cur level : ℕ) → (linkOf xs cur level ≡ 0) ⊎ (List·Memᴰ (linkOf xs cur level) (sound .sequence) × (level < heightOf xs (linkOf xs cur level)))
+  look-right : (cur level : ℕ) → (linkOf xs cur level ≡ 0) ⊎ (List·Memᴰ (linkOf xs cur level) (lowest xs) × (level < heightOf xs (linkOf xs cur level)))
       → look xs mode k s cur level ≡ got (turn (passTest xs mode k s) (stopTest xs mode k s) (linkOf xs cur level))
   unfolding look
   look-right cur level h = go (linkOf xs cur level) h
     where
-      node : (x : ℕ) → List·Memᴰ x (sound .sequence) → level < heightOf xs x → x ≢ 0 → meet xs mode k s level (linkPlace xs cur level) x ≡ got (turnBy mode (probe (entryOf xs) k s x))
+      node : (x : ℕ) → List·Memᴰ x (lowest xs) → level < heightOf xs x → x ≢ 0 → meet xs mode k s level (linkPlace xs cur level) x ≡ got (turnBy mode (probe (entryOf xs) k s x))
       node zero m l n = absurd (n refl)
       node (suc x) m l n = let w = sound .within (suc x) m in let r = sound .reads (suc x) (w .0) (w .1) in
           rw (lead-read xs (free xs) (slot xs (suc x)) (heightOf xs (suc x)) (entryOf xs (suc x)) r, lt-ltb level (heightOf xs (suc x)) l)
           (ap (λ (e : Entry). got (turnBy mode (compareEntries (e .key) (e .number) k s))) (node-entry xs (free xs) (slot xs (suc x)) (heightOf xs (suc x)) (entryOf xs (suc x)) (omega (arith, sound .header .high)) r))
 
-      go : (x : ℕ) → (x ≡ 0) ⊎ (List·Memᴰ x (sound .sequence) × (level < heightOf xs x)) → check (leb x (count xs)) (linkPlace xs cur level) (meet xs mode k s level (linkPlace xs cur level) x) ≡ got (turn (passTest xs mode k s) (stopTest xs mode k s) x)
+      go : (x : ℕ) → (x ≡ 0) ⊎ (List·Memᴰ x (lowest xs) × (level < heightOf xs x))
+          → check (leb x (count xs)) (linkPlace xs cur level) (meet xs mode k s level (linkPlace xs cur level) x) ≡ got (turn (passTest xs mode k s) (stopTest xs mode k s) x)
       go x (inl e) = rw (e, le-leb 0 (count xs) (omega arith))
       go x (inr (m, l)) = let w = sound .within x m in let z : x ≢ 0 = (λ e. omega arith) in rw (le-leb x (count xs) (w .1), turn-is xs mode k s x z) (node x m l z)
 
   -- the search is never bad, and right
-  pub search-right : (pre post : List ℕ) → sound .sequence ≡ pre ++ post → Parted (heightOf xs) (passTest xs mode k s) (stopTest xs mode k s) pre post → Right (levels - 1) (heightOf xs) (stopTest xs mode k s) pre post (searched xs mode k s)
+  pub search-right : (pre post : List ℕ) → lowest xs ≡ pre ++ post → Parted (heightOf xs) (passTest xs mode k s) (stopTest xs mode k s) pre post
+      → Right (levels - 1) (heightOf xs) (stopTest xs mode k s) pre post (searched xs mode k s)
   search-right pre post e p = skip.search (levels - 1) (heightOf xs) (look xs mode k s) (linkOf xs) (linkPlace xs) (passTest xs mode k s) (stopTest xs mode k s) pre post (rw e at (linked xs sound)) p
-      (λ x l h lands. look-right x l (link-lands levels (heightOf xs) (linkOf xs) (sound .sequence) (linked xs sound) l (omega arith) x (rw e lands)))
-      (count xs + levels) (replicate levels 0) (omega (arith, sound .full, ap length e, length-append pre post))
+      (λ x l h lands. look-right x l (link-lands levels (heightOf xs) (linkOf xs) (lowest xs) (linked xs sound) l (omega arith) x (rw e lands)))
+      (count xs + levels) (replicate levels 0) (omega (arith, lowest-full xs, ap length e, length-append pre post))
 
 -- the nodes that a search passes, and those that it does not
 module _ (xs : List ℕ) (sound : Sound xs) (k : List ℕ) (s : ℕ) where
   abbrev pub Splits : OnEqual → Type 0
-  Splits mode = (pre : List ℕ) × (post : List ℕ) × (sound .sequence ≡ pre ++ post) × Parted (heightOf xs) (passTest xs mode k s) (stopTest xs mode k s) pre post
+  Splits mode = (pre : List ℕ) × (post : List ℕ) × (lowest xs ≡ pre ++ post) × Parted (heightOf xs) (passTest xs mode k s) (stopTest xs mode k s) pre post
 
   stop-splits : Splits toStop
-  stop-splits = let (pre, post, e, p, q) = probe-parted (entryOf xs) k s (heightOf xs) (sound .sequence) (nonzero xs sound) (positive xs sound) (sound .ascending) in
+  stop-splits = let (pre, post, e, p, q) = probe-parted (entryOf xs) k s (heightOf xs) (lowest xs) (nonzero xs sound) (positive xs sound) (sound .ascending) in
       (pre, post, e, record { nonzero = p .nonzero; high = p .high; passes = λ x m. stop-pass xs k s x ∙ p .passes x m; refuses = λ x m. stop-pass xs k s x ∙ p .refuses x m; stops = λ x m h. p .stops x m (sym (stop-stop xs k s x) ∙ h) })
 
   never-splits : (mode : OnEqual) → ((o : Ord) → isHalt (turnBy mode o) ≡ false) → Splits mode
-  never-splits mode never = go (part (passTest xs mode k s) (sound .sequence) (pairwise-map _ _ (sound .sequence) keeps (sound .ascending)))
+  never-splits mode never = go (part (passTest xs mode k s) (lowest xs) (pairwise-map _ _ (lowest xs) keeps (sound .ascending)))
     where
       keep : (a b : Ord) → (b ≡ less → a ≡ less) → (b ≡ equal → a ≡ less) → isOnward (turnBy mode b) ≡ true → isOnward (turnBy mode a) ≡ true
       keep a less f g h = rw (f refl)
@@ -174,7 +176,7 @@ module _ (xs : List ℕ) (sound : Sound xs) (k : List ℕ) (s : ℕ) where
           (λ e. entries .trans ((entryOf xs x) .key, (entryOf xs x) .number) ((entryOf xs y) .key, (entryOf xs y) .number) (k, s) h e)
           (λ e. less-equal comparePairs entries ((entryOf xs x) .key, (entryOf xs x) .number) ((entryOf xs y) .key, (entryOf xs y) .number) (k, s) h e)
 
-      go : (pre : List ℕ) × (post : List ℕ) × (sound .sequence ≡ pre ++ post) × All (λ x. passTest xs mode k s x ≡ true) pre × All (λ x. passTest xs mode k s x ≡ false) post → Splits mode
+      go : (pre : List ℕ) × (post : List ℕ) × (lowest xs ≡ pre ++ post) × All (λ x. passTest xs mode k s x ≡ true) pre × All (λ x. passTest xs mode k s x ≡ false) post → Splits mode
       go (pre, post, e, h, g) = (pre, post, e, record { nonzero = rw e at (nonzero xs sound); high = rw e at (positive xs sound); passes = h; refuses = g; stops = λ x m f. absurd (true≢false (sym f ∙ never (probe (entryOf xs) k s x))) })
 
   pub splits : (mode : OnEqual) → Splits mode
@@ -204,7 +206,7 @@ pub record Missed (xs : List ℕ) (mode : OnEqual) (k : List ℕ) (s : ℕ) (bef
 pub record Searched (xs : List ℕ) (sound : Sound xs) (mode : OnEqual) (k : List ℕ) (s : ℕ) : Type 0 where
   pub before : List ℕ
   pub behind : List ℕ
-  pub split : sound .sequence ≡ before ++ behind
+  pub split : lowest xs ≡ before ++ behind
   pub passes : All (λ x. passTest xs mode k s x ≡ true) before
   pub refuses : All (λ x. passTest xs mode k s x ≡ false) behind
   pub found : Found
@@ -219,7 +221,7 @@ search-sound xs sound mode k s = let (pre, post, e, p) = splits xs sound k s mod
     Parts : List ℕ → List ℕ → Type 0
     Parts pre post = Parted (heightOf xs) (passTest xs mode k s) (stopTest xs mode k s) pre post
 
-    with-answer : (pre post : List ℕ) → sound .sequence ≡ pre ++ post → Parts pre post → (r : Found) → searched xs mode k s ≡ got r → standing r ≡ first post
+    with-answer : (pre post : List ℕ) → lowest xs ≡ pre ++ post → Parts pre post → (r : Found) → searched xs mode k s ≡ got r → standing r ≡ first post
         → ((x looks : ℕ) → r ≡ hit x looks → List·Memᴰ x post × (stopTest xs mode k s x ≡ true)) → ((u x looks : ℕ) (prev : List ℕ) → r ≡ ends u x looks prev → Missed xs mode k s pre post u prev) → Searched xs sound mode k s
     with-answer pre post e p r f g h m = record { before = pre; behind = post; split = e; passes = p .passes; refuses = p .refuses; found = r; search = f; stands = g; hits = h; misses = m }
 
@@ -227,7 +229,8 @@ search-sound xs sound mode k s = let (pre, post, e, p) = splits xs sound k s mod
     stops [] x y t f q = absurd (true≢false (sym t))
     stops (z ∷ post) x y t f q = rw (← q, f) (here, t)
 
-    go : (pre post : List ℕ) → sound .sequence ≡ pre ++ post → Parts pre post → (r : Read Found) → searched xs mode k s ≡ r → Right (levels - 1) (heightOf xs) (stopTest xs mode k s) pre post r → Searched xs sound mode k s
+    go : (pre post : List ℕ) → lowest xs ≡ pre ++ post → Parts pre post → (r : Read Found) → searched xs mode k s ≡ r
+        → Right (levels - 1) (heightOf xs) (stopTest xs mode k s) pre post r → Searched xs sound mode k s
     go pre post e p (bad o) f g = absurd g
     go pre post e p (got (hit x looks)) f g = with-answer pre post e p (hit x looks) f (g .node) (λ y l q. stops post x y (g .present) (g .node) (cc)) (λ u y l prev q. absurd (let z : _≡_ {A = ℕ} 0 1 = cc in omega arith))
     go pre post e p (got (ends u x looks prev)) f g = with-answer pre post e p (ends u x looks prev) f (g .after) (λ y l q. absurd (let z : _≡_ {A = ℕ} 0 1 = cc in omega arith)) (λ v y l w q.

@@ -15,7 +15,7 @@ use Rattle.image.specs.Limits.{levels}
 use Rattle.image.specs.Words.{Bytes, word}
 use Rattle.image.specs.Entries.{encode}
 use Rattle.image.specs.Nodes.{count, free, slot, slotPlace, entryPlace, NodeHere, heightOf, entryOf, linkOf}
-use Rattle.image.specs.Sound.{Sound, placeOf, sizeAt}
+use Rattle.image.specs.Sound.{lowest, Sound, placeOf, sizeAt}
 use Rattle.image.specs.Added.{Added}
 use Rattle.image.proofs.Words.{word-unique, holds-both}
 use Rattle.image.proofs.Nodes.{links-node}
@@ -62,22 +62,23 @@ module _ (xs ys : List ℕ) (s : Sound xs) (t : Sound ys) (bx : Bytes xs) (by : 
   same-free : free xs ≡ free ys
   same-free = sym (place-free xs) ∙ same-place (count xs) (omega arith) ∙ rw same-count (place-free ys)
 
-  same-sequence : s .sequence ≡ t .sequence
-  same-sequence = ascending-unique (λ x y. order (entryOf xs x) (entryOf xs y) ≡ less) (λ x y. order-strict (entryOf xs x) (entryOf xs y)) (s .sequence) (t .sequence) (s .ascending) (pairwise-ext (entryOf ys) (entryOf xs) (t .sequence) (λ x m. let b = t .within x m in same-entry x (b .0) (omega (arith, b .1))) (t .ascending))
+  same-sequence : lowest xs ≡ lowest ys
+  same-sequence = ascending-unique (λ x y. order (entryOf xs x) (entryOf xs y) ≡ less) (λ x y. order-strict (entryOf xs x) (entryOf xs y)) (lowest xs) (lowest ys) (s .ascending)
+      (pairwise-ext (entryOf ys) (entryOf xs) (lowest ys) (λ x m. let b = t .within x m in same-entry x (b .0) (omega (arith, b .1))) (t .ascending))
       (λ x m. let b = s .within x m in everywhere ys t x (b .0) (omega (arith, b .1)))
       (λ x m. let b = t .within x m in everywhere xs s x (b .0) (omega (arith, b .1)))
 
-  same-heights : All (λ x. heightOf ys x ≡ heightOf xs x) (s .sequence)
+  same-heights : All (λ x. heightOf ys x ≡ heightOf xs x) (lowest xs)
   same-heights x m = let b = s .within x m in sym (same-height x (b .0) (b .1))
 
-  linked-ys : Linked levels (heightOf xs) (linkOf ys) (s .sequence)
-  linked-ys = linked-ext levels (heightOf ys) (heightOf xs) (linkOf ys) (linkOf ys) (s .sequence) same-heights (λ l p. refl) (λ l p x m q. refl) (rw same-sequence (linked ys t))
+  linked-ys : Linked levels (heightOf xs) (linkOf ys) (lowest xs)
+  linked-ys = linked-ext levels (heightOf ys) (heightOf xs) (linkOf ys) (linkOf ys) (lowest xs) same-heights (λ l p. refl) (λ l p x m q. refl) (rw same-sequence (linked ys t))
 
   same-head : (l : ℕ) → l < levels → linkOf xs 0 l ≡ linkOf ys 0 l
-  same-head l p = linked-head-unique levels (heightOf xs) (linkOf xs) (linkOf ys) (s .sequence) (linked xs s) linked-ys l p
+  same-head l p = linked-head-unique levels (heightOf xs) (linkOf xs) (linkOf ys) (lowest xs) (linked xs s) linked-ys l p
 
   same-link : (i l : ℕ) → 1 ≤ i → i ≤ count xs → l < heightOf xs i → linkOf xs i l ≡ linkOf ys i l
-  same-link i l p r q = linked-unique levels (heightOf xs) (linkOf xs) (linkOf ys) (s .sequence) (linked xs s) linked-ys l (omega (arith, (s .reads i p r) .height-most)) i (everywhere xs s i p r) q
+  same-link i l p r q = linked-unique levels (heightOf xs) (linkOf xs) (linkOf ys) (lowest xs) (linked xs s) linked-ys l (omega (arith, (s .reads i p r) .height-most)) i (everywhere xs s i p r) q
 
   -- ---- byte by byte
 
@@ -134,7 +135,8 @@ module _ (xs ys : List ℕ) (s : Sound xs) (t : Sound ys) (bx : Bytes xs) (by : 
 pub addition-unique : (xs : List ℕ) (e : Entry) (h : ℕ) (ys zs : List ℕ) → Added xs e h ys → Sound zs → Bytes ys → Bytes zs → length zs ≡ length xs → count zs ≡ suc (count xs)
     → ((i : ℕ) → 1 ≤ i → i ≤ count xs → heightOf zs i ≡ heightOf xs i) → ((i : ℕ) → 1 ≤ i → i ≤ count xs → entryOf zs i ≡ entryOf xs i) → heightOf zs (suc (count xs)) ≡ h → entryOf zs (suc (count xs)) ≡ e
     → (q : ℕ) → q < length ys → (free ys ≤ q → q < length ys - 4 * count ys → ⊥) → getD ys q 0 ≡ getD zs q 0
-addition-unique xs e h ys zs a t by bz len one hs es h1 e1 = sound-unique ys zs (a .sound) t by bz (a .length-same ∙ sym len) (a .one-more ∙ sym one) (λ i p r. height i p (ℕ-discrete i (suc (count xs))) r) (λ i p r. entry i p (ℕ-discrete i (suc (count xs))) r)
+addition-unique xs e h ys zs a t by bz len one hs es h1 e1 = sound-unique ys zs (a .sound) t by bz (a .length-same ∙ sym len) (a .one-more ∙ sym one)
+    (λ i p r. height i p (ℕ-discrete i (suc (count xs))) r) (λ i p r. entry i p (ℕ-discrete i (suc (count xs))) r)
   where
     height : (i : ℕ) → 1 ≤ i → Dec (i ≡ suc (count xs)) → i ≤ count ys → heightOf ys i ≡ heightOf zs i
     height i p (yes z) r = rw z (a .height-new ∙ sym h1)

@@ -81,7 +81,7 @@ abbrev pub Right : Case → Type 0
 Right (shows s from moves tables rows) = rowsAfter moves s from (together tables) ≡ rows
 Right (rises ks) = Rising ks
 Right (begins entry bs) = take (length bs) (encode entry) ≡ bs
-Right (adds size entry h answer) = add (freshImage (replicate size 0xa5)) entry h ≡ answer
+Right (adds size entry h answer) = (xs : List ℕ) → length xs ≡ size → add (freshImage xs) entry h ≡ answer
 
 -- the cases in their order
 abbrev pub cases : List Case

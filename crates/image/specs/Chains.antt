@@ -1,9 +1,14 @@
 -- The chains of a skip list, over functions of the node number.
-use Prim.Native.Nat.{ℕ, _<_}
+use Prim.Native.Nat.{ℕ, zero, suc, _<_}
 use mathlib.Core.Path.{_≡_}
 use mathlib.Core.List.{List, [], _∷_}
 use lib.Dec.{ltb}
 use Rattle.rule.specs.Lists.{cond}
+
+-- the nodes that the links f lead through from x on, so many of them
+abbrev pub met : (ℕ → ℕ) → ℕ → ℕ → List ℕ
+met f zero x = []
+met f (suc n) x = x ∷ met f n (f x)
 
 -- the links f lead from x through all of a list, in its order, to 0, which is none
 abbrev pub chain : (ℕ → ℕ) → ℕ → List ℕ → Type 0

@@ -11,7 +11,7 @@ use Rattle.rule.specs.Entries.{Entry, order}
 use Rattle.image.specs.Limits.{headerSize, maxImage, maxNodes, levels}
 use Rattle.image.specs.Words.{word}
 use Rattle.image.specs.Nodes.{count, free, slot, sizeOf, NodeIs, heightOf, entryOf, linkOf}
-use Rattle.image.specs.Chains.{Chained}
+use Rattle.image.specs.Chains.{met, Chained}
 
 -- the header holds: L is 64 to 65,536 and equals the slice's length, there are 12 levels, n is at most 4,096, F is at least 64 and at most L - 4n
 pub record Header (xs : List ℕ) : Type 0 where
@@ -38,6 +38,10 @@ placeOf xs i = cond (leb i (count xs)) (slot xs i) (free xs)
 abbrev pub sizeAt : List ℕ → ℕ → ℕ
 sizeAt xs i = sizeOf (heightOf xs i) (entryOf xs i)
 
+-- the nodes that the lowest chain meets from the head on, as many as there are
+unfoldable pub lowest : List ℕ → List ℕ
+lowest xs = met (λ i. linkOf xs i 0) (count xs) (linkOf xs 0 0)
+
 -- document 01's paragraph, in its order
 pub record Sound (xs : List ℕ) : Type 0 where
   -- the header holds
@@ -47,13 +51,11 @@ pub record Sound (xs : List ℕ) : Type 0 where
   pub follows : (i : ℕ) → 1 ≤ i → i ≤ count xs → placeOf xs (suc i) ≡ slot xs i + sizeAt xs i
   -- heights are 1 to 12; each entry fills its length exactly, within the limits, its type 0 or 1
   pub reads : (i : ℕ) → 1 ≤ i → i ≤ count xs → NodeIs xs i (heightOf xs i) (entryOf xs i)
-  -- the lowest chain meets every node once in strictly ascending order: as many nodes as there are, each before the next
-  pub sequence : List ℕ
-  pub within : All (λ x. (1 ≤ x) × (x ≤ count xs)) sequence
-  pub full : length sequence ≡ count xs
-  pub ascending : Pairwise (λ x y. order (entryOf xs x) (entryOf xs y) ≡ less) sequence
-  -- and the chain at each level meets, in that order, exactly the nodes tall enough for it; at the lowest that is all of them
-  pub chained : Chained levels (heightOf xs) (linkOf xs) sequence
+  -- the lowest chain meets every node once in strictly ascending order: it meets as many as there are, and each comes before the next
+  pub within : All (λ x. (1 ≤ x) × (x ≤ count xs)) (lowest xs)
+  pub ascending : Pairwise (λ x y. order (entryOf xs x) (entryOf xs y) ≡ less) (lowest xs)
+  -- and the chain at each level meets, in that order, exactly the nodes tall enough for it, and ends; at the lowest that is all of them
+  pub chained : Chained levels (heightOf xs) (linkOf xs) (lowest xs)
 
 -- the entries of nodes 1 to i, in order of arrival
 abbrev pub heldUpTo : List ℕ → ℕ → List Entry

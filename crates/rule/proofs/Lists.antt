@@ -3,11 +3,11 @@ use Prim.Native.Nat.{ℕ, zero, suc, _≤_}
 use native.Mathlib.Omega.{arith}
 use native.Mathlib.Decide.{ℕ-discrete}
 use mathlib.Core.Path.{_≡_, refl, sym, ap, subst, _∙_}
-use mathlib.Core.Logic.{⊎-elim}
+use mathlib.Core.Logic.{_⊎_, inl, inr, ⊎-elim}
 use mathlib.Core.List.{List, [], _∷_, _++_, map, List·Memᴰ, List·Memᴰ·head, List·Memᴰ·tail, List·Memᴰ·not-nil, List·Memᴰ·cases-cons, Memᴰ·cast, Memᴰ·append-left, Memᴰ·append-right, List·Memᴰ·append-cases}
 use mathlib.Core.Bool.{Bool, true, false, true≢false}
 use lib.ListN.{length, length-append}
-use Rattle.rule.specs.Lists.{both, All, Pairwise}
+use Rattle.rule.specs.Lists.{cond, both, keep, All, Pairwise}
 
 -- two tests that hold together hold each
 pub both-true : (a b : Bool) → both a b ≡ true → (a ≡ true) × (b ≡ true)
@@ -87,6 +87,29 @@ module _ {ℓ} {A : Type ℓ} where
   pub distinct-drop : (a : List A) (x : A) (b : List A) → Distinct (a ++ (x ∷ b)) → Distinct (a ++ b) × All (λ y. y ≡ x → ⊥) (a ++ b)
   distinct-drop [] x b d = (d .1, λ y m e. d .0 (Memᴰ·cast (sym e) m))
   distinct-drop (y ∷ a) x b d = let t = distinct-drop a x b (d .1) in ((λ m. d .0 (mem-insert a x b m), t .0), all-cons (λ e. d .0 (Memᴰ·append-right a (List·Memᴰ·head e))) (t .1))
+
+module _ {ℓ} {A : Type ℓ} (test : A → Bool) where
+  -- what is kept is a member that passes the test, and such a member is kept
+  pub mem-keep : (xs : List A) (x : A) → List·Memᴰ x (keep test xs) → List·Memᴰ x xs × (test x ≡ true)
+  mem-keep [] x m = absurd (List·Memᴰ·not-nil m)
+  mem-keep (y ∷ ys) x m = go (test y) refl m (mem-keep ys x)
+    where
+      later : List·Memᴰ x ys × (test x ≡ true) → List·Memᴰ x (y ∷ ys) × (test x ≡ true)
+      later (n, t) = (List·Memᴰ·tail n, t)
+
+      go : (b : Bool) → test y ≡ b → List·Memᴰ x (cond b (y ∷ keep test ys) (keep test ys)) → (List·Memᴰ x (keep test ys) → List·Memᴰ x ys × (test x ≡ true)) → List·Memᴰ x (y ∷ ys) × (test x ≡ true)
+      go true e m ih = ⊎-elim (λ q. (List·Memᴰ·head q, ap test q ∙ e)) (λ n. later (ih n)) (List·Memᴰ·cases-cons m)
+      go false e m ih = later (ih m)
+
+  pub keep-mem : (xs : List A) (x : A) → List·Memᴰ x xs → test x ≡ true → List·Memᴰ x (keep test xs)
+  keep-mem [] x m t = m
+  keep-mem (y ∷ ys) x m t = go (test y) refl (List·Memᴰ·cases-cons m) (λ n. keep-mem ys x n t)
+    where
+      go : (b : Bool) → test y ≡ b → (x ≡ y) ⊎ List·Memᴰ x ys → (List·Memᴰ x ys → List·Memᴰ x (keep test ys)) → List·Memᴰ x (cond b (y ∷ keep test ys) (keep test ys))
+      go true e (inl q) ih = List·Memᴰ·head q
+      go true e (inr n) ih = List·Memᴰ·tail (ih n)
+      go false e (inl q) ih = absurd (true≢false (sym t ∙ ap test q ∙ e))
+      go false e (inr n) ih = ih n
 
 module _ {ℓ κ} {A : Type ℓ} {B : Type κ} (f : A → B) where
   pub all-map {μ} : (P : B → Type μ) (xs : List A) → All (λ x. P (f x)) xs → All P (map f xs)

@@ -48,15 +48,15 @@ module _ (cmp : List ℕ → List ℕ → Ord) (o : Order (List ℕ) cmp) where
   every-onward a b p q = refl
 
   module _ (s : ℕ) (es : List Entry) (p : List ℕ → Bool) where
-    pub best-end : Least cmp p es none → best (λ a b. isLess (cmp a b)) p s es es ≡ none
-    best-end h = best-by cmp o p s es es none (λ e m c. h e m (c .admitted))
+    pub best-end : Least cmp p es none → best (λ a b. isLess (cmp a b)) p s es ≡ none
+    best-end h = best-by cmp o p s es none (λ e m c. h e m (c .admitted))
 
     module _ (k : List ℕ) (l : Least cmp p es (some k)) where
-      pub best-done : isSome (row k s es) ≡ true → best (λ a b. isLess (cmp a b)) p s es es ≡ some k
-      best-done r = best-by cmp o p s es es (some k) (l .0, record { admitted = l .1; present = r }, λ e m c. l .2 e m (c .admitted))
+      pub best-done : isSome (row k s es) ≡ true → best (λ a b. isLess (cmp a b)) p s es ≡ some k
+      best-done r = best-by cmp o p s es (some k) (l .0, record { admitted = l .1; present = r }, λ e m c. l .2 e m (c .admitted))
 
-      pub best-past : Onward cmp p → isSome (row k s es) ≡ false → best (λ a b. isLess (cmp a b)) p s es es ≡ best (λ a b. isLess (cmp a b)) (λ x. isLess (cmp k x)) s es es
-      best-past up r = best-by cmp o p s es es (best (λ a b. isLess (cmp a b)) (λ x. isLess (cmp k x)) s es es) (go (best (λ a b. isLess (cmp a b)) (λ x. isLess (cmp k x)) s es es) (best-is cmp o (λ x. isLess (cmp k x)) s es es))
+      pub best-past : Onward cmp p → isSome (row k s es) ≡ false → best (λ a b. isLess (cmp a b)) p s es ≡ best (λ a b. isLess (cmp a b)) (λ x. isLess (cmp k x)) s es
+      best-past up r = let found = best (λ a b. isLess (cmp a b)) (λ x. isLess (cmp k x)) s es in best-by cmp o p s es found (go found (best-is cmp o (λ x. isLess (cmp k x)) s es))
         where
           back : (x : List ℕ) → Candidate (λ y. isLess (cmp k y)) s es x → Candidate p s es x
           back x c = record { admitted = up k x (l .1) (c .admitted); present = c .present }
@@ -71,7 +71,7 @@ module _ (cmp : List ℕ → List ℕ → Ord) (o : Order (List ℕ) cmp) where
           on : (e : Entry) → List·Memᴰ e es → Candidate p s es (e .key) → Candidate (λ y. isLess (cmp k y)) s es (e .key)
           on e m c = record { admitted = after (e .key) (l .2 e m (c .admitted)) (c .present); present = c .present }
 
-          go : (n : Maybe (List ℕ)) → Best cmp o (λ x. isLess (cmp k x)) s es es n → Best cmp o p s es es n
+          go : (n : Maybe (List ℕ)) → Best cmp o (λ x. isLess (cmp k x)) s es n → Best cmp o p s es n
           go none h = λ e m c. h e m (on e m c)
           go (some x) (a, b, h) = (a, back x b, λ e m c. h e m (on e m c))
 

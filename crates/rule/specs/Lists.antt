@@ -23,6 +23,11 @@ isSome none = false
 isSome (some a) = true
 
 module _ {ℓ} {A : Type ℓ} where
+  -- the members that pass a test, in order
+  abbrev pub keep : (A → Bool) → List A → List A
+  keep test [] = []
+  keep test (x ∷ xs) = cond (test x) (x ∷ keep test xs) (keep test xs)
+
   -- every member has P
   abbrev pub All {κ} : (A → Type κ) → List A → Type (ℓ ⊔ κ)
   All P xs = (x : A) → List·Memᴰ x xs → P x

@@ -1,8 +1,8 @@
 -- The key that each move of the visible cursor ends on: document 01, 'Looking, moving, showing'.
 use Prim.Native.Nat.{ℕ}
-use mathlib.Core.List.{List, [], _∷_}
+use mathlib.Core.List.{List, [], _∷_, map}
 use mathlib.Core.Bool.{Bool, true, not}
-use Rattle.rule.specs.Lists.{cond, both, Maybe, none, some, isSome}
+use Rattle.rule.specs.Lists.{cond, Maybe, none, some, isSome, keep}
 use Rattle.rule.specs.Order.{compareKeys, isLess}
 use Rattle.rule.specs.Entries.{Entry}
 use Rattle.rule.specs.Rows.{row}
@@ -20,10 +20,18 @@ abbrev pub earlier : (List ℕ → List ℕ → Bool) → List ℕ → Maybe (Li
 earlier before k none = k
 earlier before k (some l) = cond (before l k) l k
 
--- among the keys of es that the cut admits and that have a row in all, the one that comes before the others
-abbrev pub best : (List ℕ → List ℕ → Bool) → (List ℕ → Bool) → ℕ → List Entry → List Entry → Maybe (List ℕ)
-best before cut s all [] = none
-best before cut s all (e ∷ es) = cond (both (cut (e .key)) (isSome (row (e .key) s all))) (some (earlier before (e .key) (best before cut s all es))) (best before cut s all es)
+-- of all keys the one that comes before the others
+abbrev pub foremost : (List ℕ → List ℕ → Bool) → List (List ℕ) → Maybe (List ℕ)
+foremost before [] = none
+foremost before (k ∷ ks) = some (earlier before k (foremost before ks))
+
+-- the keys with a row at snapshot s
+abbrev pub shownKeys : ℕ → List Entry → List (List ℕ)
+shownKeys s es = keep (λ k. isSome (row k s es)) (map (λ e. e .key) es)
+
+-- of the keys with a row that the cut admits, the one that comes before the others
+abbrev pub best : (List ℕ → List ℕ → Bool) → (List ℕ → Bool) → ℕ → List Entry → Maybe (List ℕ)
+best before cut s es = foremost before (keep cut (shownKeys s es))
 
 -- the cut that admits every key
 abbrev pub every : List ℕ → Bool
@@ -38,12 +46,12 @@ pub data Move : Type 0 where
 
 -- the key that a move ends on at snapshot s, from the key c that it starts on; none is nowhere
 abbrev pub target : Move → ℕ → Maybe (List ℕ) → List Entry → Maybe (List ℕ)
-target first s c es = best below every s es es
-target (seek t) s c es = best below (λ k. not (below k t)) s es es
-target next s none es = best below every s es es
-target next s (some k) es = best below (λ l. below k l) s es es
+target first s c es = best below every s es
+target (seek t) s c es = best below (λ k. not (below k t)) s es
+target next s none es = best below every s es
+target next s (some k) es = best below (λ l. below k l) s es
 target previous s none es = none
-target previous s (some k) es = best above (λ l. below l k) s es es
+target previous s (some k) es = best above (λ l. below l k) s es
 
 -- a key with its row's value
 pub record Row : Type 0 where

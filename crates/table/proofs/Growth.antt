@@ -65,7 +65,8 @@ additions-grow {xs} s (more {ys = ys} {zs = zs} e h i a b) = let g = add-keeps x
 -- and what was held is followed by what was added
 pub additions-held : {xs ys : List ℕ} {es : List Entry} → Sound xs → Additions xs es ys → held ys ≡ held xs ++ es
 additions-held {xs} s none = sym (append-nil (held xs))
-additions-held {xs} s (more {ys = ys} {zs = zs} {es = es} e h i a b) = let (g, _) = a .rule s in additions-held (g .sound) b ∙ ap (λ (fs : List Entry). fs ++ es) (g .held-more) ∙ append-assoc (held xs) (e ∷ []) es
+additions-held {xs} s (more {ys = ys} {zs = zs} {es = es} e h i a b) = let (g, _) = a .rule s in
+    additions-held (g .sound) b ∙ ap (λ (fs : List Entry). fs ++ es) (g .held-more) ∙ append-assoc (held xs) (e ∷ []) es
 
 -- a table holds what it was filled with, in order of arrival
 pub filled-sound : (es : List Entry) (xs : List ℕ) → Filled es xs → Sound xs

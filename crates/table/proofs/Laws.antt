@@ -16,7 +16,7 @@ use Rattle.rule.proofs.Lists.{both-true}
 use Rattle.rule.proofs.Order.{entries-less-number}
 use Rattle.image.specs.Limits.{levels, maxNodes}
 use Rattle.image.specs.Nodes.{count, entryOf}
-use Rattle.image.specs.Sound.{Sound, headerHolds, held, heldUpTo}
+use Rattle.image.specs.Sound.{lowest, Sound, held, heldUpTo}
 use Rattle.image.specs.Lookup.{Lookup, get}
 use Rattle.image.specs.Refusals.{given}
 use Rattle.image.specs.EntryMoves.{on, inTable, numberView}
@@ -64,7 +64,8 @@ between {A = A} R (z ∷ zs) (h, p) x y m n = go (List·Memᴰ·cases-cons m) (L
 
 -- on a sound image a node is known by its key and number
 pub node-single : (xs : List ℕ) → Sound xs → (i j : ℕ) → IsNode xs i → IsNode xs j → entryOf xs i .key ≡ entryOf xs j .key → entryOf xs i .number ≡ entryOf xs j .number → i ≡ j
-node-single xs s i j a b k n = go (between (λ x y. order (entryOf xs x) (entryOf xs y) ≡ less) (s .sequence) (s .ascending) i j (everywhere xs s i (a .some) (a .most)) (everywhere xs s j (b .some) (b .most)))
+node-single xs s i j a b k n = go (between (λ x y. order (entryOf xs x) (entryOf xs y) ≡ less) (lowest xs) (s .ascending) i j
+    (everywhere xs s i (a .some) (a .most)) (everywhere xs s j (b .some) (b .most)))
   where
     go : (i ≡ j) ⊎ ((order (entryOf xs i) (entryOf xs j) ≡ less) ⊎ (order (entryOf xs j) (entryOf xs i) ≡ less)) → i ≡ j
     go (inl e) = e
@@ -86,19 +87,19 @@ past-past below = refl
 
 -- each move's target is the best behind a cut
 module _ (s : ℕ) (es : List Entry) where
-  pub first-behind : (t : List ℕ) (k : Maybe (List ℕ)) → target first s k es ≡ best (λ a b. isLess (cmpOf all a b)) (admits all t) s es es
+  pub first-behind : (t : List ℕ) (k : Maybe (List ℕ)) → target first s k es ≡ best (λ a b. isLess (cmpOf all a b)) (admits all t) s es
   first-behind t k = refl
 
-  pub seek-behind : (t : List ℕ) (k : Maybe (List ℕ)) → target (seek t) s k es ≡ best (λ a b. isLess (cmpOf from a b)) (admits from t) s es es
+  pub seek-behind : (t : List ℕ) (k : Maybe (List ℕ)) → target (seek t) s k es ≡ best (λ a b. isLess (cmpOf from a b)) (admits from t) s es
   seek-behind t k = refl
 
-  pub next-behind : (k : List ℕ) → target next s (some k) es ≡ best (λ a b. isLess (cmpOf above a b)) (admits above k) s es es
+  pub next-behind : (k : List ℕ) → target next s (some k) es ≡ best (λ a b. isLess (cmpOf above a b)) (admits above k) s es
   next-behind k = refl
 
-  pub next-nowhere : (t : List ℕ) → target next s none es ≡ best (λ a b. isLess (cmpOf all a b)) (admits all t) s es es
+  pub next-nowhere : (t : List ℕ) → target next s none es ≡ best (λ a b. isLess (cmpOf all a b)) (admits all t) s es
   next-nowhere t = refl
 
-  pub previous-behind : (k : List ℕ) → target previous s (some k) es ≡ best (λ a b. isLess (cmpOf below a b)) (admits below k) s es es
+  pub previous-behind : (k : List ℕ) → target previous s (some k) es ≡ best (λ a b. isLess (cmpOf below a b)) (admits below k) s es
   previous-behind k = refl
 
 -- ---- lookups
