@@ -24,8 +24,8 @@ use Rattle.table.specs.declared.entry_spans.SpanOn.the-variants as span
 use Rattle.cursor.specs.declared.places.Side.{Side}
 use Rattle.cursor.specs.declared.places.Side.the-variants.{First, Second}
 use Rattle.cursor.specs.declared.places.Cursor.{Cursor as Visible}
-use Rattle.cursor.specs.declared.row_spans.RowSpan.{RowSpan}
-use Rattle.cursor.specs.declared.row_spans.RowSpan.the-variants as row
+use Rattle.cursor.specs.declared.row_views.RowSpan.{RowSpan}
+use Rattle.cursor.specs.declared.row_views.RowSpan.the-variants as row
 use Rattle.capi.specs.declared.memtable.BavoView.{BavoView}
 use Rattle.capi.specs.declared.row_views.BavoRowView.{BavoRowView}
 

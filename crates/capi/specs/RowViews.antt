@@ -5,8 +5,8 @@ use lib.Dec.{eqb}
 use Rattle.rule.specs.Lists.{cond}
 use Rattle.image.specs.Refusals.{numberOf}
 use Rattle.table.specs.Refusals.{refusalIs}
-use Rattle.cursor.specs.declared.row_spans.RowSpan.{RowSpan}
-use Rattle.cursor.specs.declared.row_spans.RowSpan.the-variants.{Nowhere, In, Refused}
+use Rattle.cursor.specs.declared.row_views.RowSpan.{RowSpan}
+use Rattle.cursor.specs.declared.row_views.RowSpan.the-variants.{Nowhere, In, Refused}
 use Rattle.capi.specs.DbIter.{sideNumber}
 use Rattle.capi.specs.declared.row_views.BavoRowView.{BavoRowView}
 

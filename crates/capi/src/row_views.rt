@@ -9,10 +9,10 @@ ghost use Rattle.capi.specs.RowViews.{plainRowView};
 use crate::db_iter::BavoCursor;
 use crate::db_iter::cursor_of;
 use crate::db_iter::side_number;
-use cursor::row_spans::RowSpan;
-use cursor::row_spans::row_key_span;
-use cursor::row_spans::row_value_span;
+use cursor::row_views::RowSpan;
+use cursor::row_views::row_key_span;
 use cursor::row_views::row_refusal;
+use cursor::row_views::row_value_span;
 
 // A part of the first image (1) or of the second (2). Nowhere, and refused, there is none: 0, 0, 0.
 #[repr(C)]
@@ -51,7 +51,7 @@ fn plain_row_view(a: RowSpan) -> BavoRowView
 
 // The key at a cursor. Refusals 1 (first table, then second), 10, 9.
 #[no_mangle]
-pub extern "C" fn bavo_row_key(first: &[u8], second: &[u8], at: BavoCursor) -> BavoRowView
+pub extern "C" fn bavo_row_key<'a>(first: &'a [u8], second: &'a [u8], at: BavoCursor) -> BavoRowView
     ensures { λ r. ⌜ Plainly plainRowView (λ a. RowSpans keyView (now (first .entry)) (now (second .entry)) (cursorOf at) a) r ⌝ }
 {
     plain_row_view(row_key_span(first, second, cursor_of(at)))
@@ -59,7 +59,11 @@ pub extern "C" fn bavo_row_key(first: &[u8], second: &[u8], at: BavoCursor) -> B
 
 // The value at a cursor; a deletion's is empty. Refusals 1 (first table, then second), 10, 9.
 #[no_mangle]
-pub extern "C" fn bavo_row_value(first: &[u8], second: &[u8], at: BavoCursor) -> BavoRowView
+pub extern "C" fn bavo_row_value<'a>(
+    first: &'a [u8],
+    second: &'a [u8],
+    at: BavoCursor,
+) -> BavoRowView
     ensures { λ r. ⌜ Plainly plainRowView (λ a. RowSpans valueView (now (first .entry)) (now (second .entry)) (cursorOf at) a) r ⌝ }
 {
     plain_row_view(row_value_span(first, second, cursor_of(at)))
@@ -67,7 +71,7 @@ pub extern "C" fn bavo_row_value(first: &[u8], second: &[u8], at: BavoCursor) ->
 
 // The companion of the two.
 #[no_mangle]
-pub extern "C" fn bavo_row_refusal(first: &[u8], second: &[u8], at: BavoCursor) -> u32
+pub extern "C" fn bavo_row_refusal<'a>(first: &'a [u8], second: &'a [u8], at: BavoCursor) -> u32
     ensures { λ r. ⌜ Refuses (now (first .entry)) (now (second .entry)) (cursorOf at) r ⌝ }
 {
     row_refusal(first, second, cursor_of(at))

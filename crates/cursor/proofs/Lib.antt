@@ -1,3 +1,4 @@
+pub mod Headers
 pub mod Merging
 pub mod Walks
 pub mod Moves

@@ -7,7 +7,7 @@ use mathlib.Core.Bool.{Bool, true, false, not, true≢false}
 use lib.ListN.{length}
 use lib.Dec.{leb}
 use borrow.Author.Tests.{not-true, not-false, le-leb, lt-leb}
-use Rattle.rule.specs.Lists.{Maybe, none, some}
+use Rattle.rule.specs.Lists.{both, Maybe, none, some}
 use Rattle.rule.specs.Order.{compareKeys, isLess}
 use Rattle.rule.specs.Moves.{Move, target}
 use Rattle.rule.proofs.Order.{less-true}
@@ -29,6 +29,7 @@ use Rattle.table.specs.declared.refusals.Refusal.the-variants as refusal
 use Rattle.table.specs.declared.memtable_iter.CursorTest.{CursorTest}
 use Rattle.table.specs.declared.memtable_iter.CursorTest.the-variants as test
 use Rattle.table.proofs.Laws.{in-table, first-behind, seek-behind, next-behind, next-nowhere, previous-behind}
+use Rattle.cursor.proofs.Headers.{headers-hold, headers-refused}
 use Rattle.cursor.proofs.Merging.{sound-of, key-told}
 use Rattle.cursor.specs.Places.{imageOf, all, entryAt, keyAt, CursorIn, HeadersHold, inside, refusalAt}
 use Rattle.cursor.specs.Walks.{bestOf, LandsOn, Ends, FoundIn, Walked}
@@ -61,38 +62,32 @@ module _ (f g : List ℕ) (p : Place) where
 
 -- ---- the test of the arguments
 
-module _ (f g : List ℕ) (s : ℕ) (c : Cursor) (t : List ℕ) {a : Bool} (ea : a ≡ headerHolds f) where
-  pub asked-first : not a ≡ true → testAs (Failed refusal.BadImage) ≡ asked f g s c t
+module _ (f g : List ℕ) (s : ℕ) (c : Cursor) (t : List ℕ) {a : Bool} (ea : a ≡ both (headerHolds f) (headerHolds g)) where
+  pub asked-headers : not a ≡ true → testAs (Failed refusal.BadImage) ≡ asked f g s c t
   unfolding asked
-  asked-first h = rw (← ea, not-true a h)
+  asked-headers h = headers-refused f g ea h _
 
-  module _ (ha : not a ≡ false) {b : Bool} (eb : b ≡ headerHolds g) where
-    pub asked-second : not b ≡ true → testAs (Failed refusal.BadImage) ≡ asked f g s c t
+  module _ (ha : not a ≡ false) {d : Bool} (ed : d ≡ inside f g c) where
+    holds : HeadersHold f g
+    holds = headers-hold f g ea ha
+
+    pub asked-cursor : not d ≡ true → testAs (Failed refusal.NoNode) ≡ asked f g s c t
     unfolding asked
-    asked-second h = rw (← ea, not-false a ha, ← eb, not-true b h)
+    asked-cursor h = rw (holds .first, holds .second, ← ed, not-true d h)
 
-    module _ (hb : not b ≡ false) where
-      pub headers-hold : HeadersHold f g
-      headers-hold = record { first = sym ea ∙ not-false a ha; second = sym eb ∙ not-false b hb }
+    module _ (hd : not d ≡ false) {n : Bool} (en : n ≡ leb s maxNumber) where
+      pub asked-number : not n ≡ true → testAs (Failed refusal.BadNumber) ≡ asked f g s c t
+      unfolding asked
+      asked-number h = rw (holds .first, holds .second, ← ed, not-false d hd, ← en, not-true n h)
 
-      module _ {d : Bool} (ed : d ≡ inside f g c) where
-        pub asked-cursor : not d ≡ true → testAs (Failed refusal.NoNode) ≡ asked f g s c t
+      module _ (hn : not n ≡ false) where
+        pub asked-key : maxKey < length t → testAs (Failed refusal.LongKey) ≡ asked f g s c t
         unfolding asked
-        asked-cursor h = rw (← ea, not-false a ha, ← eb, not-false b hb, ← ed, not-true d h)
+        asked-key h = rw (holds .first, holds .second, ← ed, not-false d hd, ← en, not-false n hn, lt-leb (length t) maxKey h)
 
-        module _ (hd : not d ≡ false) {n : Bool} (en : n ≡ leb s maxNumber) where
-          pub asked-number : not n ≡ true → testAs (Failed refusal.BadNumber) ≡ asked f g s c t
-          unfolding asked
-          asked-number h = rw (← ea, not-false a ha, ← eb, not-false b hb, ← ed, not-false d hd, ← en, not-true n h)
-
-          module _ (hn : not n ≡ false) where
-            pub asked-key : maxKey < length t → testAs (Failed refusal.LongKey) ≡ asked f g s c t
-            unfolding asked
-            asked-key h = rw (← ea, not-false a ha, ← eb, not-false b hb, ← ed, not-false d hd, ← en, not-false n hn, lt-leb (length t) maxKey h)
-
-            pub asked-passed : length t ≤ maxKey → testAs Passed ≡ asked f g s c t
-            unfolding asked
-            asked-passed h = rw (← ea, not-false a ha, ← eb, not-false b hb, ← ed, not-false d hd, ← en, not-false n hn, le-leb (length t) maxKey h)
+        pub asked-passed : length t ≤ maxKey → testAs Passed ≡ asked f g s c t
+        unfolding asked
+        asked-passed h = rw (holds .first, holds .second, ← ed, not-false d hd, ← en, not-false n hn, le-leb (length t) maxKey h)
 
 -- what arguments that pass have
 module _ (f g : List ℕ) (s : ℕ) (c : Cursor) (t : List ℕ) (e : asked f g s c t ≡ given tt) where

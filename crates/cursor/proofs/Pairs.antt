@@ -7,8 +7,7 @@ use mathlib.Core.List.{List}
 use mathlib.Core.Bool.{Bool, true, false, not}
 use lib.ListN.{length}
 use lib.Dec.{leb}
-use borrow.Author.Tests.{not-true, not-false}
-use Rattle.rule.specs.Lists.{cond}
+use Rattle.rule.specs.Lists.{cond, both}
 use Rattle.image.specs.Limits.{maxKey, maxNumber, maxNodes, levels}
 use Rattle.image.specs.Nodes.{count}
 use Rattle.image.specs.Sound.{Sound, headerHolds}
@@ -27,6 +26,7 @@ use Rattle.table.specs.declared.refusals.Refusal.the-variants as refusal
 use Rattle.table.specs.declared.memtable.Lookup.{Lookup as LookupHere}
 use Rattle.table.specs.declared.memtable.Lookup.the-variants as lookup
 use Rattle.table.proofs.Laws.{get-looks}
+use Rattle.cursor.proofs.Headers.{headers-hold, headers-refused}
 use Rattle.cursor.specs.Places.{place}
 use Rattle.cursor.specs.Pairs.{PairLooked, pairAs, saysIn, toldBy, isSaid, answersOf, looksTaken, FewLooks, firstOrSecond, getPair, TellsPair, mostLooks, SearchLooks, PairLooks, GetsPair}
 use Rattle.cursor.specs.declared.places.Side.{Side}
@@ -131,26 +131,21 @@ module _ (f g k : List ℕ) (s : ℕ) where
     looks = λ a d. pair-few f g k s (a .looks) (pair-searched f g k s a (sym e ∙ d));
   }
 
-  module _ {a : Bool} (ea : a ≡ headerHolds f) where
-    pub pair-first-bad : not a ≡ true → GetsPair f g k s (pair.Refused refusal.BadImage)
+  module _ {a : Bool} (ea : a ≡ both (headerHolds f) (headerHolds g)) where
+    pub pair-bad : not a ≡ true → GetsPair f g k s (pair.Refused refusal.BadImage)
     unfolding getPair
-    pair-first-bad h = gets-pair (pair.Refused refusal.BadImage) (rw (← ea, not-true a h))
+    pair-bad h = gets-pair (pair.Refused refusal.BadImage) (headers-refused f g ea h _)
 
-    module _ (ha : not a ≡ false) {b : Bool} (eb : b ≡ headerHolds g) where
-      pub pair-second-bad : not b ≡ true → GetsPair f g k s (pair.Refused refusal.BadImage)
+    module _ (ha : not a ≡ false) {u : LookupHere} (gu : Gets f k s u) {t : Bool} (et : t ≡ answersOf (lookupAs u)) where
+      decided : getPair f g k s ≡ cond t (toldBy First 0 (lookupAs u)) (toldBy Second (looksTaken (lookupAs u)) (get g k s))
       unfolding getPair
-      pair-second-bad h = gets-pair (pair.Refused refusal.BadImage) (rw (← ea, not-false a ha, ← eb, not-true b h))
+      decided = let h = headers-hold f g ea ha in rw (h .first, h .second, ← gu .exact, et)
 
-      module _ (hb : not b ≡ false) {u : LookupHere} (gu : Gets f k s u) {t : Bool} (et : t ≡ answersOf (lookupAs u)) where
-        decided : getPair f g k s ≡ cond t (toldBy First 0 (lookupAs u)) (toldBy Second (looksTaken (lookupAs u)) (get g k s))
-        unfolding getPair
-        decided = rw (← ea, not-false a ha, ← eb, not-false b hb, ← gu .exact, et)
+      pub pair-first : t ≡ true → (r : PairLookup) → pairAs r ≡ toldBy First 0 (lookupAs u) → GetsPair f g k s r
+      pair-first h r e = gets-pair r (e ∙ sym (rw h at decided))
 
-        pub pair-first : t ≡ true → (r : PairLookup) → pairAs r ≡ toldBy First 0 (lookupAs u) → GetsPair f g k s r
-        pair-first h r e = gets-pair r (e ∙ sym (rw h at decided))
-
-        pub pair-second : t ≡ false → {m : ℕ} → m ≡ looksTaken (lookupAs u) → {v : LookupHere} → Gets g k s v → (r : PairLookup) → pairAs r ≡ toldBy Second m (lookupAs v) → GetsPair f g k s r
-        pair-second h {m} d {v} gv r e = gets-pair r (e ∙ same ∙ sym (rw h at decided))
-          where
-            same : toldBy Second m (lookupAs v) ≡ toldBy Second (looksTaken (lookupAs u)) (get g k s)
-            same = rw (d, gv .exact)
+      pub pair-second : t ≡ false → {m : ℕ} → m ≡ looksTaken (lookupAs u) → {v : LookupHere} → Gets g k s v → (r : PairLookup) → pairAs r ≡ toldBy Second m (lookupAs v) → GetsPair f g k s r
+      pair-second h {m} d {v} gv r e = gets-pair r (e ∙ same ∙ sym (rw h at decided))
+        where
+          same : toldBy Second m (lookupAs v) ≡ toldBy Second (looksTaken (lookupAs u)) (get g k s)
+          same = rw (d, gv .exact)

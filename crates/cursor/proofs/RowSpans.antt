@@ -1,8 +1,14 @@
 -- The ways out of the questions where a row's view stands, and that the part there is what the view shows.
-use Prim.Native.Nat.{ℕ}
+use Prim.Native.Nat.{ℕ, _+_, _-_, _≤_}
+use native.Mathlib.Omega.{arith}
 use mathlib.Core.Path.{_≡_, refl, sym, ap, _∙_}
-use mathlib.Core.List.{List, []}
+use mathlib.Core.Logic.{⊎-elim}
+use mathlib.Core.List.{List, [], _∷_}
 use mathlib.Core.Bool.{Bool, true, false, not}
+use lib.ListN.{length, take, drop}
+use types.Run.{OneOf}
+use denote.Enum.Declared.{tagOf}
+use Rattle.cursor.proofs.row_views.RowSpan.{the-type}
 use borrow.Author.Tests.{not-true, not-false}
 use Rattle.rule.specs.Lists.{cond, both, Maybe, none, some}
 use Rattle.image.specs.Sound.{headerHolds}
@@ -10,6 +16,8 @@ use Rattle.image.specs.Refusals.{Answer, refused, given, refusalOf, numberOf, b
 use Rattle.image.specs.EntryMoves.{Span, on, viewed, view, emptySpan, keySpan, valueSpan, partsOn, keyView, valueView}
 use Rattle.table.specs.EntrySpans.{spanAs, SpanLies, Spans}
 use Rattle.table.proofs.Spans.{same-refusal}
+use Rattle.table.proofs.Views.{span-lent}
+use Rattle.cursor.proofs.Rows.{shows-key, shows-value}
 use Rattle.cursor.specs.Places.{imageOf, keyAt, valueAt}
 use Rattle.cursor.specs.Rows.{shownOn, ShowsKey, ShowsValue, refusalOn, Refuses}
 use Rattle.cursor.specs.RowSpans.{PartIn, rowSpanAs, spanIn, partIn, View, spanAt, spanOn, rowSpan, partBytes, RowSpanLies, SpansAt, RowSpans}
@@ -20,8 +28,8 @@ use Rattle.cursor.specs.declared.places.Side.{Side}
 use Rattle.cursor.specs.declared.places.Place.{Place}
 use Rattle.cursor.specs.declared.places.Cursor.{Cursor}
 use Rattle.cursor.specs.declared.places.Cursor.the-variants as cursor
-use Rattle.cursor.specs.declared.row_spans.RowSpan.{RowSpan}
-use Rattle.cursor.specs.declared.row_spans.RowSpan.the-variants.{Nowhere, In, Refused}
+use Rattle.cursor.specs.declared.row_views.RowSpan.{RowSpan}
+use Rattle.cursor.specs.declared.row_views.RowSpan.the-variants.{Nowhere, In, Refused}
 
 -- ---- each way out
 
@@ -34,8 +42,11 @@ in-lies f g side (At o n) l = l
 in-lies f g side (RefusedOn q) l = tt
 
 -- the answer of the place's table
-pub spans-at : (v : View) (f g : List ℕ) (p : Place) {side : Side} → p .table ≡ side → {s : SpanOn} → Spans (imageOf side f g) (v (imageOf side f g) (on (p .node))) s → {r : RowSpan} → r ≡ spanIn (p .table) s → SpansAt v f g p r
-spans-at v f g p {side} e {s} is {r} d = record { exact = rw (d, e) (in-as side s ∙ ap (partIn side) (is .exact)); lies = rw (d, e) (in-lies f g side s (is .lies)) }
+pub spans-at : (v : View) (f g : List ℕ) (p : Place) {xs : List ℕ} → xs ≡ imageOf (p .table) f g → {s : SpanOn} → Spans xs (v xs (on (p .node))) s → {r : RowSpan} → r ≡ spanIn (p .table) s → SpansAt v f g p r
+spans-at v f g p {xs} e {s} is {r} d = let h : Spans (imageOf (p .table) f g) (v (imageOf (p .table) f g) (on (p .node))) s = rw e at is in record {
+  exact = rw d (in-as (p .table) s ∙ ap (partIn (p .table)) (h .exact));
+  lies = rw d (in-lies f g (p .table) s (h .lies));
+}
 
 module _ (v : View) (f g : List ℕ) (c : Cursor) {b : Bool} (eb : b ≡ both (headerHolds f) (headerHolds g)) where
   pub spans-headers : not b ≡ true → RowSpans v f g c (Refused BadImage)
@@ -73,6 +84,29 @@ bytes-shown : (v : View) (f g : List ℕ) (c : Cursor) → partBytes f g (rowSpa
 unfolding rowSpan
 bytes-shown v f g cursor.Nowhere = none-by f g (both (headerHolds f) (headerHolds g))
 bytes-shown v f g (cursor.On p) = bytes-by v f g p (both (headerHolds f) (headerHolds g))
+
+-- what a `let .. else` that asks for a part knows in its else
+pub no-part : (f g : List ℕ) (r : RowSpan) → OneOf (0 ∷ 2 ∷ []) (tagOf the-type r) → [] ≡ partBytes f g (rowSpanAs r)
+no-part f g Nowhere k = refl
+no-part f g (In side o n) k = absurd (⊎-elim (λ e. omega arith) (λ e. omega arith) k)
+no-part f g (Refused q) k = refl
+
+-- a span that names a part, with the image xs that it names
+module _ (f g : List ℕ) {r : RowSpan} {side : Side} {o n : ℕ} (e : r ≡ In side o n) {xs : List ℕ} (i : xs ≡ imageOf side f g) where
+  -- it ends within the image
+  pub part-ends : RowSpanLies f g r → o + n ≤ length xs
+  part-ends l = rw i (rw e at l)
+
+  -- lent from o to o + n it is the part
+  pub part-lent : take (o + n - o) (drop o xs) ≡ partBytes f g (rowSpanAs r)
+  part-lent = span-lent xs o n ∙ rw (e, i)
+
+-- so the part there is what the view promises
+pub key-part : (f g : List ℕ) (c : Cursor) {r : RowSpan} → RowSpans keyView f g c r → {k : List ℕ} → k ≡ partBytes f g (rowSpanAs r) → ShowsKey f g c k
+key-part f g c s {k} e = shows-key f g c k (e ∙ ap (partBytes f g) (s .exact) ∙ bytes-shown keyView f g c)
+
+pub value-part : (f g : List ℕ) (c : Cursor) {r : RowSpan} → RowSpans valueView f g c r → {v : List ℕ} → v ≡ partBytes f g (rowSpanAs r) → ShowsValue f g c v
+value-part f g c s {v} e = shows-value f g c v (e ∙ ap (partBytes f g) (s .exact) ∙ bytes-shown valueView f g c)
 
 -- the part there is the key that `row_key` shows
 pub key-shown : {f g : List ℕ} {c : Cursor} {r : RowSpan} → RowSpans keyView f g c r → {k : List ℕ} → ShowsKey f g c k → partBytes f g (rowSpanAs r) ≡ k

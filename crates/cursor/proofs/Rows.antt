@@ -16,12 +16,6 @@ use Rattle.cursor.specs.declared.places.Place.{Place}
 use Rattle.cursor.specs.declared.places.Cursor.{Cursor}
 use Rattle.cursor.specs.declared.places.Cursor.the-variants.{Nowhere, On}
 
-pub headers-bad : (f g : List ℕ) {a : Bool} → a ≡ headerHolds f → not a ≡ true → false ≡ both (headerHolds f) (headerHolds g)
-headers-bad f g {a} e h = rw (← e, not-true a h)
-
-pub headers-second : (f g : List ℕ) {a b : Bool} → a ≡ headerHolds f → not a ≡ false → b ≡ headerHolds g → b ≡ both (headerHolds f) (headerHolds g)
-headers-second f g {a} e h d = rw (← e, not-false a h) d
-
 -- ---- on sound tables
 
 module _ (f g : List ℕ) (x : Sound f) (y : Sound g) where
@@ -43,7 +37,7 @@ module _ (f g : List ℕ) (x : Sound f) (y : Sound g) where
   refusal-rule Nowhere i = rw headers
   refusal-rule (On p) i = rw headers (view-accepted (imageOf (p .table) f g) (sound-of f g x y (p .table)) (p .node) i)
 
--- ---- each way out
+-- ---- what was shown, and each way out of the companion
 
 module _ (f g : List ℕ) (c : Cursor) where
   pub shows-key : (v : List ℕ) → v ≡ shownOn keyAt f g c → ShowsKey f g c v
@@ -55,12 +49,6 @@ module _ (f g : List ℕ) (c : Cursor) where
   pub refuses : (n : ℕ) → n ≡ cond (both (headerHolds f) (headerHolds g)) (refusalOn f g c) (numberOf badImage) → Refuses f g c n
   refuses n e = record { exact = e; rule = λ x y i. e ∙ refusal-rule f g x y c i }
 
-  pub key-nowhere : c ≡ Nowhere → ShowsKey f g c []
-  key-nowhere e = shows-key [] (rw e)
-
-  pub value-nowhere : c ≡ Nowhere → ShowsValue f g c []
-  value-nowhere e = shows-value [] (rw e)
-
   module _ {b : Bool} (eb : b ≡ both (headerHolds f) (headerHolds g)) where
     pub refuses-headers : not b ≡ true → (n : ℕ) → n ≡ numberOf badImage → Refuses f g c n
     refuses-headers h n e = refuses n (rw (← eb, not-true b h) e)
@@ -68,18 +56,5 @@ module _ (f g : List ℕ) (c : Cursor) where
     pub refuses-nowhere : not b ≡ false → c ≡ Nowhere → Refuses f g c 0
     refuses-nowhere h e = refuses 0 (rw (e, ← eb, not-false b h))
 
-    module _ {p : Place} (e : c ≡ On p) where
-      pub key-headers : not b ≡ true → ShowsKey f g c []
-      key-headers h = shows-key [] (rw (e, ← eb, not-true b h))
-
-      pub key-on : not b ≡ false → {v : List ℕ} → v ≡ keyAt f g p → ShowsKey f g c v
-      key-on h {v} d = shows-key v (rw (e, ← eb, not-false b h) d)
-
-      pub value-headers : not b ≡ true → ShowsValue f g c []
-      value-headers h = shows-value [] (rw (e, ← eb, not-true b h))
-
-      pub value-on : not b ≡ false → {v : List ℕ} → v ≡ valueAt f g p → ShowsValue f g c v
-      value-on h {v} d = shows-value v (rw (e, ← eb, not-false b h) d)
-
-      pub refuses-on : not b ≡ false → {n : ℕ} → n ≡ refusalAt f g p → Refuses f g c n
-      refuses-on h {n} d = refuses n (rw (e, ← eb, not-false b h) d)
+    pub refuses-on : not b ≡ false → {p : Place} → c ≡ On p → {n : ℕ} → n ≡ refusalAt f g p → Refuses f g c n
+    refuses-on h e {n} d = refuses n (rw (e, ← eb, not-false b h) d)

@@ -1,4 +1,4 @@
--- Where the views at the visible cursor stand: which image, offset and length.
+-- Where the views at the visible cursor stand: which image, offset and length; a view is the part there.
 use Prim.Native.Nat.{ℕ, _+_, _≤_}
 use mathlib.Core.Path.{_≡_}
 use mathlib.Core.List.{List, []}
@@ -17,8 +17,8 @@ use Rattle.cursor.specs.declared.places.Side.{Side}
 use Rattle.cursor.specs.declared.places.Place.{Place}
 use Rattle.cursor.specs.declared.places.Cursor.{Cursor}
 use Rattle.cursor.specs.declared.places.Cursor.the-variants as cursor
-use Rattle.cursor.specs.declared.row_spans.RowSpan.{RowSpan}
-use Rattle.cursor.specs.declared.row_spans.RowSpan.the-variants.{Nowhere, In, Refused}
+use Rattle.cursor.specs.declared.row_views.RowSpan.{RowSpan}
+use Rattle.cursor.specs.declared.row_views.RowSpan.the-variants.{Nowhere, In, Refused}
 
 -- a part of one of the two images
 pub record PartIn : Type 0 where

@@ -4,23 +4,21 @@ ghost use mathlib.Core.Path.{_≡_};
 ghost use mathlib.Core.Bool.{true};
 ghost use Rattle.rule.specs.Moves as rule;
 ghost use Rattle.table.specs.Questions.{cutOf};
-ghost use Rattle.table.specs.MemtableIter.{Tested};
-ghost use Rattle.image.specs.EntryMoves.{on};
-ghost use Rattle.cursor.specs.Places.{imageOf, HeadersHold, inside, refusalAt};
+ghost use Rattle.cursor.specs.Places.{HeadersHold, inside};
 ghost use Rattle.cursor.specs.Moves.{testAs, asked, movedOf, Went, WentFrom, Moves};
 use crate::places::Cursor;
 use crate::places::Place;
-use crate::places::Side;
+use crate::places::headers_hold;
+use crate::places::image_of;
 use crate::places::key_at;
+use crate::places::place_refusal;
 use crate::walk::Found;
 use crate::walk::walk;
 use table::entries::MAX_KEY;
-use table::entry_views::entry_refusal;
 use table::key_types::Number;
 use table::memtable_iter::CursorTest;
 use table::memtable_iter::EntryCursor;
 use table::memtable_iter::test_cursor;
-use table::nodes::header_holds;
 use table::questions::Cut;
 use table::refusals::Refusal;
 
@@ -30,27 +28,17 @@ pub enum Moved {
     Refused(Refusal, Cursor),
 }
 
-// The test of a place in its table.
-fn test_place(first: &[u8], second: &[u8], p: Place) -> CursorTest
-    ensures { λ r. ⌜ Tested (imageOf (p .table) (now (first .entry)) (now (second .entry))) (on (p .node)) r ⌝ }
-{
-    let side = p.table;
-    let node = p.node;
-    match side {
-        Side::First => test_cursor(first, EntryCursor::On(node)),
-        Side::Second => test_cursor(second, EntryCursor::On(node)),
-    }
-}
-
 // Whether a cursor names a node of its table, or none.
-fn is_inside(first: &[u8], second: &[u8], at: Cursor) -> bool
+fn is_inside<'a>(first: &'a [u8], second: &'a [u8], at: Cursor) -> bool
     requires { ⌜ HeadersHold (now first) (now second) ⌝ }
     ensures { λ r. ⌜ r ≡ inside (now (first .entry)) (now (second .entry)) at ⌝ }
 {
     let Cursor::On(p) = at else {
         return true;
     };
-    match test_place(first, second, p) {
+    let side = p.table;
+    let node = p.node;
+    match test_cursor(image_of(first, second, side), EntryCursor::On(node)) {
         CursorTest::Passed(_) => true,
         CursorTest::Failed(_) => false,
     }
@@ -63,13 +51,16 @@ pub(crate) enum MoveTest {
 }
 
 // The refusals of a move's arguments in their order: 1 of the first table, 1 of the second, 10, 3, 4.
-fn test_move(first: &[u8], second: &[u8], snapshot: u64, at: Cursor, key: &[u8]) -> MoveTest
+fn test_move<'a>(
+    first: &'a [u8],
+    second: &'a [u8],
+    snapshot: u64,
+    at: Cursor,
+    key: &[u8],
+) -> MoveTest
     ensures { λ r. ⌜ testAs r ≡ asked (now (first .entry)) (now (second .entry)) snapshot at (now (key .entry)) ⌝ }
 {
-    if !header_holds(first) {
-        return MoveTest::Failed(Refusal::BadImage);
-    }
-    if !header_holds(second) {
+    if !headers_hold(first, second) {
         return MoveTest::Failed(Refusal::BadImage);
     }
     if !is_inside(first, second, at) {
@@ -107,18 +98,6 @@ fn go<'a>(
     ensures { λ r. ⌜ Went (now (first .entry)) (now (second .entry)) snapshot (cutOf cut) (now (key .entry)) at r ⌝ }
 {
     end_on(walk(first, second, snapshot, cut, key), at)
-}
-
-// The refusal of the views at a place, or 0.
-pub(crate) fn place_refusal(first: &[u8], second: &[u8], p: Place) -> u32
-    ensures { λ r. ⌜ r ≡ refusalAt (now (first .entry)) (now (second .entry)) p ⌝ }
-{
-    let side = p.table;
-    let node = p.node;
-    match side {
-        Side::First => entry_refusal(first, EntryCursor::On(node)),
-        Side::Second => entry_refusal(second, EntryCursor::On(node)),
-    }
 }
 
 // To the first key with a row behind a cut at the key of a place; a node that cannot be read is damage.

@@ -8,11 +8,11 @@ ghost use Rattle.cursor.specs.Pairs.{answersOf, looksTaken, FewLooks, to
 ghost use Rattle.cursor.specs.Merging.{metAt, metIn, nearerOf, soonerOf, NearestIs, versionIn, newerOf, NewestIs};
 use crate::places::Place;
 use crate::places::Side;
+use crate::places::headers_hold;
 use crate::places::key_at;
 use crate::places::number_at;
 use table::memtable::Lookup;
 use table::memtable::get;
-use table::nodes::header_holds;
 use table::questions::Cut;
 use table::questions::Hit;
 use table::questions::NewestAt;
@@ -146,7 +146,7 @@ fn version_in(side: Side, a: NewestAt) -> Newest
 }
 
 // The newer of two answers.
-fn newer(first: &[u8], second: &[u8], a: Newest, b: Newest) -> Newest
+fn newer<'a>(first: &'a [u8], second: &'a [u8], a: Newest, b: Newest) -> Newest
     ensures { λ r. ⌜ r ≡ newerOf (numberAt (now (first .entry)) (now (second .entry))) a b ⌝ }
 {
     match a {
@@ -166,7 +166,12 @@ fn newer(first: &[u8], second: &[u8], a: Newest, b: Newest) -> Newest
 }
 
 // The newest entry of a key up to a snapshot, over both tables.
-pub(crate) fn newest_entry(first: &[u8], second: &[u8], key: &[u8], snapshot: u64) -> Newest
+pub(crate) fn newest_entry<'a>(
+    first: &'a [u8],
+    second: &'a [u8],
+    key: &[u8],
+    snapshot: u64,
+) -> Newest
     ensures { λ r. ⌜ NewestIs (now (first .entry)) (now (second .entry)) (now (key .entry)) snapshot r ⌝ }
 {
     let a = version_in(Side::First, newest(first, key, snapshot));
@@ -228,10 +233,7 @@ fn told_by(side: Side, before: usize, a: Lookup) -> PairLookup
 pub fn get_pair(first: &[u8], second: &[u8], key: &[u8], snapshot: u64) -> PairLookup
     ensures { λ r. ⌜ GetsPair (now (first .entry)) (now (second .entry)) (now (key .entry)) snapshot r ⌝ }
 {
-    if !header_holds(first) {
-        return PairLookup::Refused(Refusal::BadImage);
-    }
-    if !header_holds(second) {
+    if !headers_hold(first, second) {
         return PairLookup::Refused(Refusal::BadImage);
     }
     let a = get(first, key, snapshot);

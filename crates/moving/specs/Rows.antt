@@ -13,8 +13,8 @@ use Rattle.moving.specs.declared.walk.Step.the-variants as step
 use Rattle.moving.specs.declared.walk.Left.{Left}
 use Rattle.moving.specs.declared.walk.Spent.{Spent}
 use Rattle.moving.specs.declared.walk.Spent.the-variants as spent
-use Rattle.moving.specs.declared.row_spans.RowSpan.{RowSpan}
-use Rattle.moving.specs.declared.row_spans.RowSpan.the-variants as row
+use Rattle.moving.specs.declared.row_views.RowSpan.{RowSpan}
+use Rattle.moving.specs.declared.row_views.RowSpan.the-variants as row
 
 -- what a key counts against a table: one node if it was met there
 abbrev pub tickOf : Bool → ℕ

@@ -2,16 +2,16 @@
 // The visible cursor: its moves over two lent images at a snapshot, each from the cursor that it is handed. A move answers from
 // the entries held at that call; a refused one hands back its cursor. Nothing here writes.
 use crate::entries::MAX_KEY;
-use crate::entry_views::entry_refusal;
 use crate::key_types::Number;
 use crate::memtable_iter::CursorTest;
 use crate::memtable_iter::EntryCursor;
 use crate::memtable_iter::test_cursor;
-use crate::nodes::header_holds;
 use crate::places::Cursor;
 use crate::places::Place;
-use crate::places::Side;
+use crate::places::headers_hold;
+use crate::places::image_of;
 use crate::places::key_at;
+use crate::places::place_refusal;
 use crate::questions::Cut;
 use crate::refusals::Refusal;
 use crate::walk::Found;
@@ -23,22 +23,14 @@ pub enum Moved {
     Refused(Refusal, Cursor),
 }
 
-// The test of a place in its table.
-fn test_place(first: &[u8], second: &[u8], p: Place) -> CursorTest {
-    let side = p.table;
-    let node = p.node;
-    match side {
-        Side::First => test_cursor(first, EntryCursor::On(node)),
-        Side::Second => test_cursor(second, EntryCursor::On(node)),
-    }
-}
-
 // Whether a cursor names a node of its table, or none.
-fn is_inside(first: &[u8], second: &[u8], at: Cursor) -> bool {
+fn is_inside<'a>(first: &'a [u8], second: &'a [u8], at: Cursor) -> bool {
     let Cursor::On(p) = at else {
         return true;
     };
-    match test_place(first, second, p) {
+    let side = p.table;
+    let node = p.node;
+    match test_cursor(image_of(first, second, side), EntryCursor::On(node)) {
         CursorTest::Passed(_) => true,
         CursorTest::Failed(_) => false,
     }
@@ -51,11 +43,14 @@ pub(crate) enum MoveTest {
 }
 
 // The refusals of a move's arguments in their order: 1 of the first table, 1 of the second, 10, 3, 4.
-fn test_move(first: &[u8], second: &[u8], snapshot: u64, at: Cursor, key: &[u8]) -> MoveTest {
-    if !header_holds(first) {
-        return MoveTest::Failed(Refusal::BadImage);
-    }
-    if !header_holds(second) {
+fn test_move<'a>(
+    first: &'a [u8],
+    second: &'a [u8],
+    snapshot: u64,
+    at: Cursor,
+    key: &[u8],
+) -> MoveTest {
+    if !headers_hold(first, second) {
         return MoveTest::Failed(Refusal::BadImage);
     }
     if !is_inside(first, second, at) {
@@ -89,16 +84,6 @@ fn go<'a>(
     at: Cursor,
 ) -> Moved {
     end_on(walk(first, second, snapshot, cut, key), at)
-}
-
-// The refusal of the views at a place, or 0.
-pub(crate) fn place_refusal(first: &[u8], second: &[u8], p: Place) -> u32 {
-    let side = p.table;
-    let node = p.node;
-    match side {
-        Side::First => entry_refusal(first, EntryCursor::On(node)),
-        Side::Second => entry_refusal(second, EntryCursor::On(node)),
-    }
 }
 
 // To the first key with a row behind a cut at the key of a place; a node that cannot be read is damage.

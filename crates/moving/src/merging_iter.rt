@@ -6,9 +6,9 @@ ghost use Rattle.moving.specs.Answers.{LookupFits};
 ghost use Rattle.moving.specs.Rows.{Counts, NearestFits, PairFits};
 use crate::memtable::Lookup;
 use crate::memtable::get;
-use crate::nodes::header_holds;
 use crate::places::Place;
 use crate::places::Side;
+use crate::places::headers_hold;
 use crate::places::key_at;
 use crate::places::number_at;
 use crate::questions::Cut;
@@ -144,7 +144,7 @@ fn version_in(side: Side, a: NewestAt) -> Newest {
 }
 
 // The newer of two answers.
-fn newer(first: &[u8], second: &[u8], a: Newest, b: Newest) -> Newest {
+fn newer<'a>(first: &'a [u8], second: &'a [u8], a: Newest, b: Newest) -> Newest {
     match a {
         Newest::Damaged => Newest::Damaged,
         Newest::Nothing => b,
@@ -162,7 +162,12 @@ fn newer(first: &[u8], second: &[u8], a: Newest, b: Newest) -> Newest {
 }
 
 // The newest entry of a key up to a snapshot, over both tables.
-pub(crate) fn newest_entry(first: &[u8], second: &[u8], key: &[u8], snapshot: u64) -> Newest {
+pub(crate) fn newest_entry<'a>(
+    first: &'a [u8],
+    second: &'a [u8],
+    key: &[u8],
+    snapshot: u64,
+) -> Newest {
     let a = version_in(Side::First, newest(first, key, snapshot));
     let b = version_in(Side::Second, newest(second, key, snapshot));
     newer(first, second, a, b)
@@ -221,10 +226,7 @@ fn told_by(side: Side, before: usize, a: Lookup) -> PairLookup
 pub fn get_pair(first: &[u8], second: &[u8], key: &[u8], snapshot: u64) -> PairLookup
     ensures { λ r. ⌜ PairFits 8216 r ⌝ }
 {
-    if !header_holds(first) {
-        return PairLookup::Refused(Refusal::BadImage);
-    }
-    if !header_holds(second) {
+    if !headers_hold(first, second) {
         return PairLookup::Refused(Refusal::BadImage);
     }
     let a = get(first, key, snapshot);

@@ -10,7 +10,7 @@ use Rattle.capi.proofs.row_views.bavo_row_key.Reads as reads
 use Rattle.capi.proofs.row_views.bavo_row_key.Lts as lts
 use Rattle.capi.proofs.db_iter.cursor_of.Reads as cursor-of-reads
 use Rattle.capi.proofs.row_views.plain_row_view.Reads as plain-row-view-reads
-use Rattle.cursor.proofs.row_spans.row_key_span.Reads as row-key-span-reads
+use Rattle.cursor.proofs.row_views.row_key_span.Reads as row-key-span-reads
 
 -- src/row_views.rt:57:48
 cursor-of-requires : tie.Need-cursor-of-requires

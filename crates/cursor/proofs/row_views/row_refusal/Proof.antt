@@ -4,8 +4,8 @@ use Rattle.cursor.proofs.row_views.row_refusal.Statement.{statement}
 use Rattle.cursor.proofs.row_views.row_refusal.Tie as tie
 use Rattle.cursor.proofs.row_views.row_refusal.Reads as reads
 use Rattle.cursor.proofs.row_views.row_refusal.Lts as lts
-use Rattle.cursor.proofs.db_iter.place_refusal.Reads as place-refusal-reads
-use Rattle.cursor.proofs.row_views.headers_hold.Reads as headers-hold-reads
+use Rattle.cursor.proofs.places.place_refusal.Reads as place-refusal-reads
+use Rattle.cursor.proofs.places.headers_hold.Reads as headers-hold-reads
 use Rattle.table.proofs.refusals.Refusal.number.Reads as number-reads
 
 -- src/row_views.rt:70:9
@@ -38,7 +38,7 @@ place-refusal-requires c κs = search needs
 
 -- src/row_views.rt:67:1
 returns-3 : tie.Need-returns-3
-returns-3 c = let a = c .before .before .before .before .before .before .before .before .args in refuses-on (a .first .now) (a .second .now) (a .at) (c .before .before .before .before .before .headers-hold .ensures) (c .before .before .at .given .1) (c .before .before .before .before .if1 .left) (c .place-refusal .ensures)
+returns-3 c = let a = c .before .before .before .before .before .before .before .before .args in refuses-on (a .first .now) (a .second .now) (a .at) (c .before .before .before .before .before .headers-hold .ensures) (c .before .before .before .before .if1 .left) (c .before .before .at .given .1) (c .place-refusal .ensures)
 
 pub row-refusal-spec : {M : Type 1} → statement M
 row-refusal-spec =

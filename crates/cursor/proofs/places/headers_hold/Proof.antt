@@ -1,24 +1,24 @@
-use Rattle.cursor.proofs.Rows.{headers-bad, headers-second}
+use Rattle.cursor.proofs.Headers.{headers-bad, headers-second}
 use borrow.Author.Needs.{needs}
-use Rattle.cursor.proofs.row_views.headers_hold.Statement.{statement}
-use Rattle.cursor.proofs.row_views.headers_hold.Tie as tie
-use Rattle.cursor.proofs.row_views.headers_hold.Reads as reads
-use Rattle.cursor.proofs.row_views.headers_hold.Lts as lts
+use Rattle.cursor.proofs.places.headers_hold.Statement.{statement}
+use Rattle.cursor.proofs.places.headers_hold.Tie as tie
+use Rattle.cursor.proofs.places.headers_hold.Reads as reads
+use Rattle.cursor.proofs.places.headers_hold.Lts as lts
 use Rattle.table.proofs.nodes.header_holds.Reads as header-holds-reads
 
--- src/row_views.rt:22:9
+-- src/places.rt:22:9
 header-holds-requires : tie.Need-header-holds-requires
 header-holds-requires c κs = search needs
 
--- src/row_views.rt:23:9
+-- src/places.rt:23:9
 returns : tie.Need-returns
 returns c = let a = c .before .before .before .before .args in headers-bad (a .first .now) (a .second .now) (c .before .header-holds .ensures) (c .if1 .taken)
 
--- src/row_views.rt:25:5
+-- src/places.rt:25:5
 header-holds-requires-2 : tie.Need-header-holds-requires-2
 header-holds-requires-2 c κs = search needs
 
--- src/row_views.rt:19:1
+-- src/places.rt:19:1
 returns-2 : tie.Need-returns-2
 returns-2 c = let a = c .before .before .before .before .before .args in headers-second (a .first .now) (a .second .now) (c .before .before .header-holds .ensures) (c .before .if1 .left) (c .header-holds2 .ensures)
 

@@ -1,6 +1,6 @@
 use borrow.Author.Needs.{needs}
-use Rattle.moving.proofs.row_spans.span_in.Statement.{statement}
-use Rattle.moving.proofs.row_spans.span_in.Tie as tie
+use Rattle.moving.proofs.row_views.span_in.Statement.{statement}
+use Rattle.moving.proofs.row_views.span_in.Tie as tie
 
 enum-known-span : tie.Need-enum-known-span
 enum-known-span c = search needs

@@ -1,22 +1,22 @@
 use borrow.Author.Needs.{needs}
-use Rattle.cursor.proofs.row_spans.span_in.Statement.{statement}
-use Rattle.cursor.proofs.row_spans.span_in.Tie as tie
-use Rattle.cursor.proofs.row_spans.span_in.Reads as reads
-use Rattle.cursor.proofs.row_spans.span_in.Lts as lts
+use Rattle.cursor.proofs.row_views.span_in.Statement.{statement}
+use Rattle.cursor.proofs.row_views.span_in.Tie as tie
+use Rattle.cursor.proofs.row_views.span_in.Reads as reads
+use Rattle.cursor.proofs.row_views.span_in.Lts as lts
 
--- src/row_spans.rt:28:22
+-- src/row_views.rt:28:22
 enum-known-span : tie.Need-enum-known-span
 enum-known-span c = search needs
 
--- src/row_spans.rt:33:25
+-- src/row_views.rt:33:25
 enum-known-span-2 : tie.Need-enum-known-span-2
 enum-known-span-2 c = search needs
 
--- src/row_spans.rt:24:1
+-- src/row_views.rt:24:1
 returns : tie.Need-returns
 returns c = rw (c .before .span .given .1)
 
--- src/row_spans.rt:24:1
+-- src/row_views.rt:24:1
 returns-2 : tie.Need-returns-2
 returns-2 c = rw (c .before .span2 .given .1)
 
