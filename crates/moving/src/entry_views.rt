@@ -15,7 +15,7 @@ use crate::nodes::node_of;
 use crate::refusals::Refusal;
 
 // The parts of the node at a cursor.
-pub enum PartsOn {
+pub(crate) enum PartsOn {
     Nowhere,
     Node(Parts),
     Refused(Refusal),

@@ -128,7 +128,7 @@ pub(crate) fn has_room(
 }
 
 // What an insertion answers: the new node's number, or why nothing was written.
-pub enum Inserted {
+pub(crate) enum Inserted {
     At(usize),
     Duplicate,
     Full,

@@ -60,7 +60,7 @@ pub fn test_cursor(s: &[u8], c: EntryCursor) -> CursorTest
 }
 
 // Where a cursor may go, or that damage was met.
-pub enum EntryFound {
+pub(crate) enum EntryFound {
     At(EntryCursor),
     Damaged,
 }

@@ -14,19 +14,19 @@ use crate::entries::rest_at;
 use crate::words::get_word;
 
 // Bytes of the header; no image is shorter, and the first node starts behind it.
-pub const HEADER_SIZE: usize = 64;
+pub(crate) const HEADER_SIZE: usize = 64;
 
 // The most bytes of an image.
-pub const MAX_IMAGE: usize = 65536;
+pub(crate) const MAX_IMAGE: usize = 65536;
 
 // The most nodes of an image.
-pub const MAX_NODES: usize = 4096;
+pub(crate) const MAX_NODES: usize = 4096;
 
 // Levels of links, which is also the height of the tallest node.
-pub const LEVELS: usize = 12;
+pub(crate) const LEVELS: usize = 12;
 
 // Where the links of the head stand in the header.
-pub const HEAD_LINKS: usize = 16;
+pub(crate) const HEAD_LINKS: usize = 16;
 
 // Count and first free byte of an image whose header holds, as they were read once.
 pub struct Frame {
@@ -35,7 +35,7 @@ pub struct Frame {
 }
 
 // The frame of an image, or that its header does not hold.
-pub enum FrameRead {
+pub(crate) enum FrameRead {
     Good(Frame),
     Bad,
 }
@@ -87,7 +87,7 @@ pub(crate) fn slot(s: &[u8], i: usize) -> usize
 }
 
 // What leads a node: its height, where its key stands, its tag, and where it ends.
-pub struct Lead {
+pub(crate) struct Lead {
     pub start: usize,
     pub height: usize,
     pub keyed: Keyed,
@@ -95,7 +95,7 @@ pub struct Lead {
 }
 
 // The lead of a node, or the place of the byte at fault.
-pub enum LeadRead {
+pub(crate) enum LeadRead {
     Got(Lead),
     Bad(usize),
 }
@@ -136,7 +136,7 @@ pub(crate) fn lead_at(s: &[u8], limit: usize, o: usize) -> LeadRead
 }
 
 // A whole node.
-pub struct Node {
+pub(crate) struct Node {
     pub start: usize,
     pub height: usize,
     pub parts: Parts,
@@ -144,7 +144,7 @@ pub struct Node {
 }
 
 // A node, or the place of the byte at fault.
-pub enum NodeRead {
+pub(crate) enum NodeRead {
     Got(Node),
     Bad(usize),
 }

@@ -17,14 +17,14 @@ use crate::nodes::lead_of;
 use crate::words::get_word;
 
 // What a search does at a node equal to its probe.
-pub enum OnEqual {
+pub(crate) enum OnEqual {
     Stop,
     GoDown,
     Pass,
 }
 
 // What a look says: pass the node, whose links stand at a place, stop at it, or go down; or the place of the byte at fault.
-pub enum TurnRead {
+pub(crate) enum TurnRead {
     Onward(usize),
     Halt,
     Below,
@@ -79,7 +79,7 @@ pub(crate) fn meet_at(
 }
 
 // Where a search ends: at a node equal to the probe, or between two nodes, or at a byte at fault; with the looks that it made.
-pub enum Spot {
+pub(crate) enum Spot {
     Hit {
         node: usize,
         looks: usize,
@@ -93,7 +93,7 @@ pub enum Spot {
 }
 
 // Where a search ends, and at each level the place of the link that it went down from.
-pub struct Searched {
+pub(crate) struct Searched {
     pub spot: Spot,
     pub places: [usize; 12],
 }

@@ -5,14 +5,14 @@ ghost use Prim.Native.Nat.{_+_, _<_, _≤_};
 ghost use lib.ListN.{length};
 
 // A byte as a number of the machine.
-pub fn wide(x: u8) -> usize
+pub(crate) fn wide(x: u8) -> usize
     ensures { λ r. ⌜ r < 256 ⌝ }
 {
     x as usize
 }
 
 // A word as a number of the machine.
-pub fn wide_word(x: u32) -> usize
+pub(crate) fn wide_word(x: u32) -> usize
     ensures { λ r. ⌜ r < 4294967296 ⌝ }
 {
     x as usize

@@ -21,7 +21,7 @@ use crate::words::put_bytes;
 // The most bytes of a key, and of a value.
 pub const MAX_KEY: usize = 1024;
 
-pub const MAX_VALUE: usize = 4096;
+pub(crate) const MAX_VALUE: usize = 4096;
 
 // How many bytes an entry takes whose key and value have these lengths.
 pub(crate) fn entry_size(key_len: usize, value_len: usize) -> usize
@@ -45,7 +45,7 @@ pub(crate) fn put_entry(s: &mut [u8], at: usize, key: &[u8], number: u64, kind: 
 }
 
 // Where the key of an entry stands, its tag, and where its value's length begins.
-pub struct Keyed {
+pub(crate) struct Keyed {
     pub key_at: usize,
     pub key_len: usize,
     pub tag: Tag,
@@ -53,7 +53,7 @@ pub struct Keyed {
 }
 
 // Key and tag of an entry, or the place of the byte at fault.
-pub enum KeyedRead {
+pub(crate) enum KeyedRead {
     Got(Keyed),
     Bad(usize),
 }
@@ -115,14 +115,14 @@ pub(crate) fn entry_less(s: &[u8], a: Keyed, b: Keyed) -> bool
 }
 
 // Where the parts of an entry stand.
-pub struct Parts {
+pub(crate) struct Parts {
     pub keyed: Keyed,
     pub value_at: usize,
     pub value_len: usize,
 }
 
 // The parts of an entry, or the place of the byte at fault.
-pub enum PartsRead {
+pub(crate) enum PartsRead {
     Got(Parts),
     Bad(usize),
 }

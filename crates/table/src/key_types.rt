@@ -40,7 +40,7 @@ impl Tag {
     pub const VALUE: u8 = 1;
 
     // Whether a type is one of the two.
-    pub fn known(kind: u8) -> bool
+    pub(crate) fn known(kind: u8) -> bool
         ensures { λ r. ⌜ r ≡ leb kind 1 ⌝ }
     {
         kind <= Tag::VALUE
@@ -57,14 +57,14 @@ impl Tag {
     }
 
     // The number of a tag.
-    pub fn number(self) -> u64
+    pub(crate) fn number(self) -> u64
         ensures { λ r. ⌜ r ≡ (self .word) / 256 ⌝ }
     {
         self.word >> 8
     }
 
     // The type of a tag.
-    pub fn kind(self) -> u8
+    pub(crate) fn kind(self) -> u8
         ensures { λ r. ⌜ r ≡ (self .word) % 256 ⌝ }
     {
         (self.word & 0xff) as u8
@@ -94,7 +94,7 @@ pub(crate) fn put_tag(s: &mut [u8], at: usize, t: Tag)
 }
 
 // How many bytes a length takes.
-pub fn len_size(len: usize) -> usize
+pub(crate) fn len_size(len: usize) -> usize
     ensures { λ r. ⌜ (r ≡ length (varint len)) × (r ≤ 2) ⌝ }
 {
     if len < 128 { 1 } else { 2 }
@@ -115,7 +115,7 @@ pub(crate) fn put_len(s: &mut [u8], at: usize, n: usize) -> usize
 }
 
 // A length with the place behind it, or the place of the byte at fault.
-pub enum LenRead {
+pub(crate) enum LenRead {
     Got { is: usize, after: usize },
     Bad(usize),
 }
@@ -153,7 +153,7 @@ pub(crate) fn len_at(s: &[u8], end: usize, o: usize) -> LenRead
 }
 
 // What a comparison answers of its first side.
-pub enum Ordering {
+pub(crate) enum Ordering {
     Less,
     Equal,
     Greater,
@@ -179,7 +179,7 @@ fn common_front(a: &[u8], b: &[u8]) -> usize
 }
 
 // Two keys by their bytes; a proper prefix comes first.
-pub fn compare_keys(a: &[u8], b: &[u8]) -> Ordering
+pub(crate) fn compare_keys(a: &[u8], b: &[u8]) -> Ordering
     ensures { λ r. ⌜ ordOf r ≡ compareKeys (now (a .entry)) (now (b .entry)) ⌝ }
 {
     let mut i = common_front(a, b);
@@ -204,7 +204,7 @@ pub fn compare_keys(a: &[u8], b: &[u8]) -> Ordering
 }
 
 // The key a with the number m beside b with n: keys ascending, numbers of equal keys descending.
-pub fn compare_entries(a: &[u8], m: u64, b: &[u8], n: u64) -> Ordering
+pub(crate) fn compare_entries(a: &[u8], m: u64, b: &[u8], n: u64) -> Ordering
     ensures { λ r. ⌜ ordOf r ≡ compareEntries (now (a .entry)) m (now (b .entry)) n ⌝ }
 {
     let keys = compare_keys(a, b);

@@ -56,7 +56,7 @@ pub fn population(s: &[u8]) -> usize
 }
 
 // Whether the key a is less than the key b.
-pub fn less(a: &[u8], b: &[u8]) -> bool
+pub(crate) fn less(a: &[u8], b: &[u8]) -> bool
     ensures { λ r. ⌜ r ≡ isLess (compareKeys (now (a .entry)) (now (b .entry))) ⌝ }
 {
     match compare_keys(a, b) {

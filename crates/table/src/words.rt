@@ -6,14 +6,14 @@ ghost use lib.Seq.{sets};
 ghost use Rattle.image.specs.Words.{word, putWord};
 
 // A byte as a number of the machine.
-pub fn wide(x: u8) -> usize
+pub(crate) fn wide(x: u8) -> usize
     ensures { λ r. ⌜ (r ≡ x) × (r < 256) ⌝ }
 {
     x as usize
 }
 
 // A word as a number of the machine.
-pub fn wide_word(x: u32) -> usize
+pub(crate) fn wide_word(x: u32) -> usize
     ensures { λ r. ⌜ r ≡ x ⌝ }
 {
     x as usize
