@@ -5,7 +5,7 @@ ghost use Prim.Native.Nat.{_≤_};
 ghost use lib.ListN.{length};
 ghost use Rattle.moving.specs.Entries.{entrySize, Writable, KeyInside, KeyedFits, PartsFit};
 use crate::key_types::LenRead;
-use crate::key_types::Ordering;
+use crate::key_types::Number;
 use crate::key_types::Tag;
 use crate::key_types::compare_entries;
 use crate::key_types::get_tag;
@@ -36,7 +36,7 @@ pub(crate) fn put_entry(s: &mut [u8], at: usize, key: &[u8], number: u64, kind: 
     let key_at = put_len(s, at, key.len() + 8);
     put_bytes(s, key_at, key);
     let tag_at = key_at + key.len();
-    put_tag(s, tag_at, Tag::pack(number, kind));
+    put_tag(s, tag_at, Tag::pack(Number { is: number }, kind));
     let value_at = put_len(s, tag_at + 8, value.len());
     put_bytes(s, value_at, value);
 }
@@ -101,12 +101,13 @@ pub(crate) fn entry_less(s: &[u8], a: Keyed, b: Keyed) -> bool
 {
     let a_tag = a.tag;
     let b_tag = b.tag;
-    let order = compare_entries(key_in(s, a), a_tag.number(), key_in(s, b), b_tag.number());
-    match order {
-        Ordering::Less => true,
-        Ordering::Equal => false,
-        Ordering::Greater => false,
-    }
+    let order = compare_entries(
+        key_in(s, a),
+        a_tag.number().is,
+        key_in(s, b),
+        b_tag.number().is,
+    );
+    order.is_less()
 }
 
 // Where the parts of an entry stand.

@@ -4,7 +4,7 @@ ghost use mathlib.Core.Path.{_≡_};
 ghost use Prim.Native.Nat.{_+_, _<_, _≤_};
 ghost use lib.ListN.{length};
 ghost use Rattle.moving.specs.Entries.{lenSize, LenFits};
-use crate::words::get_word;
+use crate::words::get_u64;
 use crate::words::put_word;
 use crate::words::wide;
 
@@ -38,15 +38,15 @@ impl Tag {
     }
 
     // A number and a type in one word.
-    pub(crate) fn pack(number: u64, kind: u8) -> Tag {
+    pub(crate) fn pack(number: Number, kind: u8) -> Tag {
         Tag {
-            word: (number << 8) | (kind as u64),
+            word: (number.is << 8) | (kind as u64),
         }
     }
 
     // The number of a tag.
-    pub(crate) fn number(self) -> u64 {
-        self.word >> 8
+    pub(crate) fn number(self) -> Number {
+        Number { is: self.word >> 8 }
     }
 
     // The type of a tag.
@@ -59,10 +59,8 @@ impl Tag {
 pub(crate) fn get_tag(s: &[u8], o: usize) -> Tag
     requires { ⌜ o + 8 ≤ length (now s) ⌝ }
 {
-    let low = get_word(s, o);
-    let high = get_word(s, o + 4);
     Tag {
-        word: (low as u64) + (high as u64) * 4294967296,
+        word: get_u64(s, o),
     }
 }
 
@@ -142,6 +140,24 @@ pub(crate) enum Ordering {
     Greater,
 }
 
+impl Ordering {
+    pub(crate) fn is_less(self) -> bool {
+        match self {
+            Ordering::Less => true,
+            Ordering::Equal => false,
+            Ordering::Greater => false,
+        }
+    }
+
+    pub(crate) fn is_equal(self) -> bool {
+        match self {
+            Ordering::Less => false,
+            Ordering::Equal => true,
+            Ordering::Greater => false,
+        }
+    }
+}
+
 // How many bytes two keys have in common at their front, in steps of eight: eight bytes are one number of the machine.
 fn common_front(a: &[u8], b: &[u8]) -> usize
     ensures { λ r. ⌜ (r ≤ length (now (a .entry))) × (r ≤ length (now (b .entry))) ⌝ }
@@ -151,9 +167,9 @@ fn common_front(a: &[u8], b: &[u8]) -> usize
         if b.len() - i < 8 {
             return i;
         }
-        let x = get_tag(a, i);
-        let y = get_tag(b, i);
-        if x.word != y.word {
+        let x = get_u64(a, i);
+        let y = get_u64(b, i);
+        if x != y {
             return i;
         }
         i += 8;

@@ -1,6 +1,6 @@
 // Made by tools/moving: table and cursor once more, in bounds, without overflow and with an end whatever each read of a lent byte
 // gives, so also when bytes change between any two reads.
-pub mod words; // words.rt: the u32 words of an image, and bytes written to it
+pub mod words; // words.rt: the words of an image, and bytes written to it
 pub mod key_types; // key_types.rt: number, tag, lengths and order
 pub mod entries; // entries.rt: the bytes of an entry
 pub mod insert; // insert.rt: writing to an image

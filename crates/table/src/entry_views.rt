@@ -88,7 +88,7 @@ pub fn entry_number(s: &[u8], c: EntryCursor) -> u64
         return 0;
     };
     let tag = p.keyed.tag;
-    tag.number()
+    tag.number().is
 }
 
 // The type at a cursor; nowhere, and where it is refused, 0.

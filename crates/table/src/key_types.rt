@@ -4,12 +4,12 @@ ghost use Prim.Native.Nat.{_+_, _*_, _/_, _%_, _<_, _≤_};
 ghost use lib.ListN.{length};
 ghost use lib.Seq.{sets};
 ghost use lib.Dec.{leb};
-ghost use Rattle.rule.specs.Order.{compareKeys, compareEntries};
+ghost use Rattle.rule.specs.Order.{compareKeys, compareEntries, isLess, isEqual};
 ghost use Rattle.image.specs.Limits.{maxNumber};
 ghost use Rattle.image.specs.Words.{fixed, bytes};
 ghost use Rattle.image.specs.Entries.{varint, lenAt};
 ghost use Rattle.table.specs.KeyTypes.{lenRead, LenFits, ordOf, Front};
-use crate::words::get_word;
+use crate::words::get_u64;
 use crate::words::put_word;
 use crate::words::wide;
 
@@ -47,20 +47,20 @@ impl Tag {
     }
 
     // A number and a type in one word.
-    pub(crate) fn pack(number: u64, kind: u8) -> Tag
-        requires { ⌜ number ≤ maxNumber ⌝ }
-        ensures { λ r. ⌜ r .word ≡ number * 256 + kind ⌝ }
+    pub(crate) fn pack(number: Number, kind: u8) -> Tag
+        requires { ⌜ number .is ≤ maxNumber ⌝ }
+        ensures { λ r. ⌜ r .word ≡ (number .is) * 256 + kind ⌝ }
     {
         Tag {
-            word: (number << 8) | (kind as u64),
+            word: (number.is << 8) | (kind as u64),
         }
     }
 
     // The number of a tag.
-    pub(crate) fn number(self) -> u64
-        ensures { λ r. ⌜ r ≡ (self .word) / 256 ⌝ }
+    pub(crate) fn number(self) -> Number
+        ensures { λ r. ⌜ r .is ≡ (self .word) / 256 ⌝ }
     {
-        self.word >> 8
+        Number { is: self.word >> 8 }
     }
 
     // The type of a tag.
@@ -76,10 +76,8 @@ pub(crate) fn get_tag(s: &[u8], o: usize) -> Tag
     requires { ⌜ o + 8 ≤ length (now s) ⌝ }
     ensures { λ r. ⌜ r .word ≡ fixed 8 (now (s .entry)) o ⌝ }
 {
-    let low = get_word(s, o);
-    let high = get_word(s, o + 4);
     Tag {
-        word: (low as u64) + (high as u64) * 4294967296,
+        word: get_u64(s, o),
     }
 }
 
@@ -159,6 +157,28 @@ pub(crate) enum Ordering {
     Greater,
 }
 
+impl Ordering {
+    pub(crate) fn is_less(self) -> bool
+        ensures { λ r. ⌜ r ≡ isLess (ordOf self) ⌝ }
+    {
+        match self {
+            Ordering::Less => true,
+            Ordering::Equal => false,
+            Ordering::Greater => false,
+        }
+    }
+
+    pub(crate) fn is_equal(self) -> bool
+        ensures { λ r. ⌜ r ≡ isEqual (ordOf self) ⌝ }
+    {
+        match self {
+            Ordering::Less => false,
+            Ordering::Equal => true,
+            Ordering::Greater => false,
+        }
+    }
+}
+
 // How many bytes two keys have in common at their front, in steps of eight: eight bytes are one number of the machine.
 fn common_front(a: &[u8], b: &[u8]) -> usize
     ensures { λ r. ⌜ Front (now (a .entry)) (now (b .entry)) r ⌝ }
@@ -168,9 +188,9 @@ fn common_front(a: &[u8], b: &[u8]) -> usize
         if b.len() - i < 8 {
             return i;
         }
-        let x = get_tag(a, i);
-        let y = get_tag(b, i);
-        if x.word != y.word {
+        let x = get_u64(a, i);
+        let y = get_u64(b, i);
+        if x != y {
             return i;
         }
         i += 8;

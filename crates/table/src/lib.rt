@@ -1,5 +1,5 @@
 // A table: a skip list of entries in one slice of bytes.
-pub mod words; // words.rt: the u32 words of an image, and bytes written to it
+pub mod words; // words.rt: the words of an image, and bytes written to it
 pub mod key_types; // key_types.rt: number, tag, lengths and order
 pub mod entries; // entries.rt: the bytes of an entry
 pub mod insert; // insert.rt: writing to an image

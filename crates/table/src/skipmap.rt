@@ -15,6 +15,7 @@ use crate::key_types::compare_entries;
 use crate::nodes::Frame;
 use crate::nodes::HEAD_LINKS;
 use crate::nodes::LEVELS;
+use crate::nodes::LINKS_AT;
 use crate::nodes::LeadRead;
 use crate::nodes::lead_of;
 use crate::words::get_word;
@@ -75,8 +76,8 @@ pub(crate) fn meet_at(
             }
             let keyed = m.keyed;
             let tag = keyed.tag;
-            let o = compare_entries(key_in(s, keyed), tag.number(), k, number);
-            turn_by(mode, o, m.start + 8)
+            let o = compare_entries(key_in(s, keyed), tag.number().is, k, number);
+            turn_by(mode, o, m.start + LINKS_AT)
         }
     }
 }
