@@ -7,9 +7,9 @@ use crate::places::Cursor;
 use crate::places::Place;
 use crate::places::Side;
 use crate::row_views::headers_hold;
-use table::entry_spans::SpanOn;
-use table::entry_spans::entry_key_span;
-use table::entry_spans::entry_value_span;
+use table::entry_views::SpanOn;
+use table::entry_views::entry_key_span;
+use table::entry_views::entry_value_span;
 use table::memtable_iter::EntryCursor;
 use table::refusals::Refusal;
 

@@ -6,7 +6,7 @@ use Rattle.cursor.proofs.row_spans.key_span_at.Tie as tie
 use Rattle.cursor.proofs.row_spans.key_span_at.Reads as reads
 use Rattle.cursor.proofs.row_spans.key_span_at.Lts as lts
 use Rattle.cursor.proofs.row_spans.span_in.Reads as span-in-reads
-use Rattle.table.proofs.entry_spans.entry_key_span.Reads as entry-key-span-reads
+use Rattle.table.proofs.entry_views.entry_key_span.Reads as entry-key-span-reads
 
 -- src/row_spans.rt:44:60
 enum-told : tie.Need-enum-told

@@ -6,7 +6,7 @@ use Rattle.cursor.proofs.row_spans.value_span_at.Tie as tie
 use Rattle.cursor.proofs.row_spans.value_span_at.Reads as reads
 use Rattle.cursor.proofs.row_spans.value_span_at.Lts as lts
 use Rattle.cursor.proofs.row_spans.span_in.Reads as span-in-reads
-use Rattle.table.proofs.entry_spans.entry_value_span.Reads as entry-value-span-reads
+use Rattle.table.proofs.entry_views.entry_value_span.Reads as entry-value-span-reads
 
 -- src/row_spans.rt:56:62
 enum-told : tie.Need-enum-told
