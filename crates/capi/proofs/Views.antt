@@ -9,8 +9,8 @@ use Rattle.rule.specs.Lists.{Maybe, none, some}
 use Rattle.image.specs.Words.{part}
 use Rattle.image.specs.Refusals.{Answer, refused, given, numberOf, refusalOf}
 use Rattle.image.specs.EntryMoves.{Cursor, Span, emptySpan, keySpan, valueSpan, partsOn, viewed, keyView, valueView, viewRefusal}
-use Rattle.table.specs.EntrySpans.{spanAs, SpanLies, Spans}
-use Rattle.table.proofs.Spans.{same-refusal}
+use Rattle.table.specs.EntryViews.{spanAs, SpanLies, Spans}
+use Rattle.table.proofs.Views.{same-refusal}
 use Rattle.cursor.specs.Places.{imageOf}
 use Rattle.cursor.specs.Rows.{ShowsKey, ShowsValue, Refuses}
 use Rattle.cursor.specs.RowSpans.{PartIn, rowSpanAs, View, rowSpan, partBytes, RowSpanLies, RowSpans}
@@ -19,8 +19,8 @@ use Rattle.capi.specs.Plain.{Plainly}
 use Rattle.capi.specs.Memtable.{plainView}
 use Rattle.capi.specs.DbIter.{sideNumber, cursorOf}
 use Rattle.capi.specs.RowViews.{plainRowView, numbered}
-use Rattle.table.specs.declared.entry_spans.SpanOn.{SpanOn}
-use Rattle.table.specs.declared.entry_spans.SpanOn.the-variants as span
+use Rattle.table.specs.declared.entry_views.SpanOn.{SpanOn}
+use Rattle.table.specs.declared.entry_views.SpanOn.the-variants as span
 use Rattle.cursor.specs.declared.places.Side.{Side}
 use Rattle.cursor.specs.declared.places.Side.the-variants.{First, Second}
 use Rattle.cursor.specs.declared.places.Cursor.{Cursor as Visible}

@@ -10,8 +10,8 @@ use Rattle.table.specs.declared.memtable.Lookup.{Lookup}
 use Rattle.table.specs.declared.memtable.Lookup.the-variants as lookup
 use Rattle.table.specs.declared.presence.Presence.{Presence}
 use Rattle.table.specs.declared.presence.Presence.the-variants as presence
-use Rattle.table.specs.declared.entry_spans.SpanOn.{SpanOn}
-use Rattle.table.specs.declared.entry_spans.SpanOn.the-variants as span
+use Rattle.table.specs.declared.entry_views.SpanOn.{SpanOn}
+use Rattle.table.specs.declared.entry_views.SpanOn.the-variants as span
 use Rattle.capi.specs.declared.memtable.BavoAdded.{BavoAdded}
 use Rattle.capi.specs.declared.memtable.BavoPresence.{BavoPresence}
 use Rattle.capi.specs.declared.memtable.BavoLookup.{BavoLookup}

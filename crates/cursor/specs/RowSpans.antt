@@ -10,8 +10,8 @@ use Rattle.image.specs.Refusals.{Answer, refused, given, badImage}
 use Rattle.image.specs.EntryMoves as one
 use Rattle.image.specs.EntryMoves.{Span, on}
 use Rattle.table.specs.Refusals.{refusalIs}
-use Rattle.table.specs.declared.entry_spans.SpanOn.{SpanOn}
-use Rattle.table.specs.declared.entry_spans.SpanOn.the-variants.{At, Refused as RefusedOn}
+use Rattle.table.specs.declared.entry_views.SpanOn.{SpanOn}
+use Rattle.table.specs.declared.entry_views.SpanOn.the-variants.{At, Refused as RefusedOn}
 use Rattle.cursor.specs.Places.{imageOf}
 use Rattle.cursor.specs.declared.places.Side.{Side}
 use Rattle.cursor.specs.declared.places.Place.{Place}

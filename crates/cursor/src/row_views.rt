@@ -11,9 +11,9 @@ use crate::places::Side;
 use crate::places::headers_hold;
 use crate::places::image_of;
 use crate::places::place_refusal;
-use table::entry_spans::SpanOn;
-use table::entry_spans::entry_key_span;
-use table::entry_spans::entry_value_span;
+use table::entry_views::SpanOn;
+use table::entry_views::entry_key_span;
+use table::entry_views::entry_value_span;
 use table::memtable_iter::EntryCursor;
 use table::refusals::Refusal;
 

@@ -1,15 +1,12 @@
 -- How many bytes are written, and where.
-use Prim.Native.Nat.{ℕ, zero, suc, _+_, _-_, _*_, _<_, _≤_}
+use Prim.Native.Nat.{ℕ, _+_, _-_, _*_, _<_, _≤_}
 use native.Mathlib.Omega.{arith}
-use mathlib.Core.Path.{_≡_, refl, sym, _∙_}
+use mathlib.Core.Path.{_≡_, refl}
 use mathlib.Core.Bool.{Bool, true, false}
-use mathlib.Core.List.{List, [], _∷_}
-use lib.ListN.{getD}
 use lib.Dec.{ltb, leb}
 use borrow.Author.Tests.{lt-ltb, le-ltb, leb-true}
 use Rattle.moving.specs.Entries.{lenSize, entrySize}
 use Rattle.moving.specs.Insert.{RoomFor, RoomIs}
-use Rattle.moving.specs.Search.{PlacesInside}
 use Rattle.moving.specs.declared.nodes.Frame.{Frame}
 
 -- a length below 128 takes one byte
@@ -30,17 +27,3 @@ room-test len f k v h size few high s = by-test (leb (12 + 4 * h + size) (len - 
     by-test : (t : Bool) → leb (12 + 4 * h + size) (len - 4 * (f .count) - (f .free)) ≡ t → RoomIs len f k v h t
     by-test true e = let le = leb-true (12 + 4 * h + size) (len - 4 * (f .count) - (f .free)) e in record { fewer = few; room = omega (arith, le, s, high) }
     by-test false e = tt
-
--- n places four bytes apart
-abbrev pub spaced : ℕ → ℕ → List ℕ
-spaced o zero = []
-spaced o (suc n) = o ∷ spaced (o + 4) n
-
-pub spaced-at : (o n l : ℕ) → l < n → getD (spaced o n) l 0 ≡ o + 4 * l
-spaced-at o zero l h = absurd (omega arith)
-spaced-at o (suc n) zero h = omega arith
-spaced-at o (suc n) (suc l) h = spaced-at (o + 4) n l (omega arith) ∙ omega arith
-
--- the links of a node lie inside where the node does
-pub links-inside : (len height : ℕ) → height ≤ 12 → 8 + 4 * height ≤ len → PlacesInside len height (spaced 8 12)
-links-inside len height tall room = record { each = λ l h. let e = spaced-at 8 12 l (omega arith) in omega (arith, e, h, tall, room) }

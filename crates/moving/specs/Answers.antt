@@ -13,8 +13,8 @@ use Rattle.moving.specs.declared.memtable_iter.CursorTest.{CursorTest}
 use Rattle.moving.specs.declared.memtable_iter.CursorTest.the-variants as test
 use Rattle.moving.specs.declared.entry_views.PartsOn.{PartsOn}
 use Rattle.moving.specs.declared.entry_views.PartsOn.the-variants as on
-use Rattle.moving.specs.declared.entry_spans.SpanOn.{SpanOn}
-use Rattle.moving.specs.declared.entry_spans.SpanOn.the-variants as span
+use Rattle.moving.specs.declared.entry_views.SpanOn.{SpanOn}
+use Rattle.moving.specs.declared.entry_views.SpanOn.the-variants as span
 use Rattle.moving.specs.declared.check.Met.{Met}
 use Rattle.moving.specs.declared.check.Met.the-variants as met
 

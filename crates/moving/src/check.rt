@@ -13,6 +13,7 @@ use crate::nodes::FrameRead;
 use crate::nodes::HEAD_LINKS;
 use crate::nodes::HEADER_SIZE;
 use crate::nodes::LEVELS;
+use crate::nodes::LINKS_AT;
 use crate::nodes::LeadRead;
 use crate::nodes::NodeRead;
 use crate::nodes::lead_of;
@@ -116,7 +117,7 @@ fn threads(s: &[u8], f: Frame) -> bool
         if !may_follow(s, last, keyed) {
             return false;
         }
-        next = step(s, m.start + 8, next, m.height);
+        next = step(s, m.start + LINKS_AT, next, m.height);
         last = Met::Node(keyed);
         left -= 1;
     }

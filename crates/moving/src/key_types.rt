@@ -4,7 +4,7 @@ ghost use mathlib.Core.Path.{_≡_};
 ghost use Prim.Native.Nat.{_+_, _<_, _≤_};
 ghost use lib.ListN.{length};
 ghost use Rattle.moving.specs.Entries.{lenSize, LenFits};
-use crate::words::get_word;
+use crate::words::get_u64;
 use crate::words::put_word;
 use crate::words::wide;
 
@@ -33,24 +33,24 @@ impl Tag {
     pub const VALUE: u8 = 1;
 
     // Whether a type is one of the two.
-    pub fn known(kind: u8) -> bool {
+    pub(crate) fn known(kind: u8) -> bool {
         kind <= Tag::VALUE
     }
 
     // A number and a type in one word.
-    pub(crate) fn pack(number: u64, kind: u8) -> Tag {
+    pub(crate) fn pack(number: Number, kind: u8) -> Tag {
         Tag {
-            word: (number << 8) | (kind as u64),
+            word: (number.is << 8) | (kind as u64),
         }
     }
 
     // The number of a tag.
-    pub fn number(self) -> u64 {
-        self.word >> 8
+    pub(crate) fn number(self) -> Number {
+        Number { is: self.word >> 8 }
     }
 
     // The type of a tag.
-    pub fn kind(self) -> u8 {
+    pub(crate) fn kind(self) -> u8 {
         (self.word & 0xff) as u8
     }
 }
@@ -59,10 +59,8 @@ impl Tag {
 pub(crate) fn get_tag(s: &[u8], o: usize) -> Tag
     requires { ⌜ o + 8 ≤ length (now s) ⌝ }
 {
-    let low = get_word(s, o);
-    let high = get_word(s, o + 4);
     Tag {
-        word: (low as u64) + (high as u64) * 4294967296,
+        word: get_u64(s, o),
     }
 }
 
@@ -77,7 +75,7 @@ pub(crate) fn put_tag(s: &mut [u8], at: usize, t: Tag)
 }
 
 // How many bytes a length takes.
-pub fn len_size(len: usize) -> usize
+pub(crate) fn len_size(len: usize) -> usize
     ensures { λ r. ⌜ (r ≡ lenSize len) × (r ≤ 2) ⌝ }
 {
     if len < 128 { 1 } else { 2 }
@@ -98,7 +96,7 @@ pub(crate) fn put_len(s: &mut [u8], at: usize, n: usize) -> usize
 }
 
 // A length with the place behind it, or the place of the byte at fault.
-pub enum LenRead {
+pub(crate) enum LenRead {
     Got { is: usize, after: usize },
     Bad(usize),
 }
@@ -136,10 +134,28 @@ pub(crate) fn len_at(s: &[u8], end: usize, o: usize) -> LenRead
 }
 
 // What a comparison answers of its first side.
-pub enum Ordering {
+pub(crate) enum Ordering {
     Less,
     Equal,
     Greater,
+}
+
+impl Ordering {
+    pub(crate) fn is_less(self) -> bool {
+        match self {
+            Ordering::Less => true,
+            Ordering::Equal => false,
+            Ordering::Greater => false,
+        }
+    }
+
+    pub(crate) fn is_equal(self) -> bool {
+        match self {
+            Ordering::Less => false,
+            Ordering::Equal => true,
+            Ordering::Greater => false,
+        }
+    }
 }
 
 // How many bytes two keys have in common at their front, in steps of eight: eight bytes are one number of the machine.
@@ -151,9 +167,9 @@ fn common_front(a: &[u8], b: &[u8]) -> usize
         if b.len() - i < 8 {
             return i;
         }
-        let x = get_tag(a, i);
-        let y = get_tag(b, i);
-        if x.word != y.word {
+        let x = get_u64(a, i);
+        let y = get_u64(b, i);
+        if x != y {
             return i;
         }
         i += 8;
@@ -162,7 +178,7 @@ fn common_front(a: &[u8], b: &[u8]) -> usize
 }
 
 // Two keys by their bytes; a proper prefix comes first.
-pub fn compare_keys(a: &[u8], b: &[u8]) -> Ordering {
+pub(crate) fn compare_keys(a: &[u8], b: &[u8]) -> Ordering {
     let mut i = common_front(a, b);
     while i < a.len() {
         if i >= b.len() {
@@ -185,7 +201,7 @@ pub fn compare_keys(a: &[u8], b: &[u8]) -> Ordering {
 }
 
 // The key a with the number m beside b with n: keys ascending, numbers of equal keys descending.
-pub fn compare_entries(a: &[u8], m: u64, b: &[u8], n: u64) -> Ordering {
+pub(crate) fn compare_entries(a: &[u8], m: u64, b: &[u8], n: u64) -> Ordering {
     let keys = compare_keys(a, b);
     match keys {
         Ordering::Less => Ordering::Less,

@@ -13,7 +13,6 @@ use crate::insert::Inserted;
 use crate::insert::fresh_header;
 use crate::insert::insert;
 use crate::key_types::Number;
-use crate::key_types::Ordering;
 use crate::key_types::Tag;
 use crate::key_types::compare_keys;
 use crate::nodes::Frame;
@@ -102,15 +101,6 @@ pub enum Lookup {
     Refused(Refusal),
 }
 
-// Whether a comparison answered equal.
-fn is_equal(o: Ordering) -> bool {
-    match o {
-        Ordering::Less => false,
-        Ordering::Equal => true,
-        Ordering::Greater => false,
-    }
-}
-
 // What a node says of a key: a value or a deletion of it, or that there is none; or that the node is damaged.
 pub(crate) enum Said {
     Value,
@@ -142,7 +132,7 @@ pub(crate) fn said_at(s: &[u8], f: Frame, key: &[u8], node: usize) -> Said
         NodeRead::Bad(_) => Said::Damaged,
         NodeRead::Got(m) => {
             let keyed = m.parts.keyed;
-            let same = is_equal(compare_keys(key_in(s, keyed), key));
+            let same = compare_keys(key_in(s, keyed), key).is_equal();
             let tag = keyed.tag;
             says(same, tag.kind())
         }

@@ -4,7 +4,6 @@
 // None of it asks anything of its caller: a bad header is damage, like any other fault that is met. Nothing here writes.
 ghost use Prim.Native.Nat.{_≤_};
 use crate::key_types::Number;
-use crate::key_types::Ordering;
 use crate::key_types::compare_keys;
 use crate::memtable::Said;
 use crate::memtable::said_at;
@@ -48,12 +47,8 @@ pub fn population(s: &[u8]) -> usize
 }
 
 // Whether the key a is less than the key b.
-pub fn less(a: &[u8], b: &[u8]) -> bool {
-    match compare_keys(a, b) {
-        Ordering::Less => true,
-        Ordering::Equal => false,
-        Ordering::Greater => false,
-    }
+fn less(a: &[u8], b: &[u8]) -> bool {
+    compare_keys(a, b).is_less()
 }
 
 // Whether the key a comes before the key b on the way of a cut.

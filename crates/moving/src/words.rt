@@ -1,18 +1,18 @@
 // Made by tools/moving from crates/table/src/words.rt: its bodies, other contracts.
-// The u32 words of an image, and bytes written to it.
+// The words of an image, and bytes written to it.
 ghost use mathlib.Core.Path.{_≡_};
 ghost use Prim.Native.Nat.{_+_, _<_, _≤_};
 ghost use lib.ListN.{length};
 
 // A byte as a number of the machine.
-pub fn wide(x: u8) -> usize
+pub(crate) fn wide(x: u8) -> usize
     ensures { λ r. ⌜ r < 256 ⌝ }
 {
     x as usize
 }
 
 // A word as a number of the machine.
-pub fn wide_word(x: u32) -> usize
+pub(crate) fn wide_word(x: u32) -> usize
     ensures { λ r. ⌜ r < 4294967296 ⌝ }
 {
     x as usize
@@ -24,6 +24,15 @@ pub(crate) fn get_word(s: &[u8], o: usize) -> usize
     ensures { λ r. ⌜ r < 4294967296 ⌝ }
 {
     wide(s[o]) + wide(s[o + 1]) * 256 + wide(s[o + 2]) * 65536 + wide(s[o + 3]) * 16777216
+}
+
+// The u64 at o, low byte first.
+pub(crate) fn get_u64(s: &[u8], o: usize) -> u64
+    requires { ⌜ o + 8 ≤ length (now s) ⌝ }
+{
+    let low = get_word(s, o);
+    let high = get_word(s, o + 4);
+    (low as u64) + (high as u64) * 4294967296
 }
 
 // Writes the low 32 bits of v at o, low byte first.

@@ -1,8 +1,8 @@
 -- What the writes of a fresh header and of a node come to, put together.
-use Prim.Native.Nat.{ℕ, zero, suc, _+_, _-_, _*_, _<_, _≤_}
+use Prim.Native.Nat.{ℕ, suc, _+_, _-_, _*_, _<_, _≤_}
 use native.Mathlib.Omega.{arith}
 use mathlib.Core.Path.{_≡_, refl, sym, ap, _∙_}
-use mathlib.Core.List.{List, [], _∷_, _++_}
+use mathlib.Core.List.{List, _++_}
 use native.Mathlib.Numerals.{add-one}
 use lib.ListN.{length, getD, set, take, drop, replicate, length-set, take-append-drop}
 use lib.Seq.{sets, getD-set-same, getD-set-other, length-take-le}
@@ -18,10 +18,16 @@ use Rattle.image.proofs.Words.{sets-append, length-putWord, putWords-ext}
 use Rattle.image.proofs.Write.{node-behind}
 use Rattle.table.specs.Insert.{LinksRead}
 
+-- the head's links lead nowhere: twelve words 0 are 48 bytes 0
+no-links : (xs : List ℕ) → putWords xs (λ l. 16 + 4 * l) (λ l. getD (replicate levels 0) l 0) levels ≡ sets xs 16 (replicate 48 0)
+unfolding putWords putWord
+no-links xs = refl
+
 -- four words and the links, each behind the one before
-pub header-written : (xs : List ℕ) (size : ℕ) (x1 x2 x3 x4 x5 zeros : List ℕ) → size ≡ length xs → x1 ≡ putWord xs 0 size → x2 ≡ putWord x1 4 0 → x3 ≡ putWord x2 8 headerSize → x4 ≡ putWord x3 12 levels → zeros ≡ replicate 48 0 → x5 ≡ sets x4 16 zeros → x5 ≡ freshImage xs
+pub header-written : (xs : List ℕ) (size : ℕ) (x1 x2 x3 x4 x5 links : List ℕ) → size ≡ length xs → x1 ≡ putWord xs 0 size → x2 ≡ putWord x1 4 0 → x3 ≡ putWord x2 8 headerSize → x4 ≡ putWord x3 12 levels → links ≡ replicate levels 0
+    → x5 ≡ putWords x4 (λ l. 16 + 4 * l) (λ l. getD links l 0) levels → x5 ≡ freshImage xs
 unfolding putWord
-header-written xs size x1 x2 x3 x4 x5 zeros l e1 e2 e3 e4 z e5 = e5 ∙ rw (z, e4, e3, e2, e1, l)
+header-written xs size x1 x2 x3 x4 x5 links l e1 e2 e3 e4 z e5 = e5 ∙ ap (λ (t : List ℕ). putWords x4 (λ l. 16 + 4 * l) (λ l. getD t l 0) levels) z ∙ no-links x4 ∙ rw (e4, e3, e2, e1, l)
     (sets-append x3′ 12 (bytes 4 levels) (replicate 48 0) ∙ sets-append x2′ 8 (bytes 4 headerSize) (bytes 4 levels ++ replicate 48 0)
     ∙ sets-append x1′ 4 (bytes 4 0) (bytes 4 headerSize ++ (bytes 4 levels ++ replicate 48 0)) ∙ sets-append xs 0 (bytes 4 (length xs)) (bytes 4 0 ++ (bytes 4 headerSize ++ (bytes 4 levels ++ replicate 48 0))))
   where
@@ -34,30 +40,14 @@ header-written xs size x1 x2 x3 x4 x5 zeros l e1 e2 e3 e4 z e5 = e5 ∙ rw (z, e
     x3′ : List ℕ
     x3′ = sets x2′ 8 (bytes 4 headerSize)
 
--- n places four bytes apart
-abbrev pub spaced : ℕ → ℕ → List ℕ
-spaced o zero = []
-spaced o (suc n) = o ∷ spaced (o + 4) n
-
-pub spaced-at : (o n l : ℕ) → l < n → getD (spaced o n) l 0 ≡ o + 4 * l
-spaced-at o zero l h = absurd (omega arith)
-spaced-at o (suc n) zero h = omega arith
-spaced-at o (suc n) (suc l) h = spaced-at (o + 4) n l (omega arith) ∙ omega arith
-
 -- height, length, links and entry
-pub node-put-together : (xs : List ℕ) (h size : ℕ) (e : Entry) (links x1 x2 x3 x4 : List ℕ) → h ≤ levels → size ≡ length (encode e) → x1 ≡ putWord xs 0 h → x2 ≡ putWord x1 4 size → x3 ≡ putWords x2 (λ l. getD (spaced 8 12) l 0) (λ l. getD links l 0) h
+pub node-put-together : (xs : List ℕ) (h size : ℕ) (e : Entry) (links x1 x2 x3 x4 : List ℕ) → size ≡ length (encode e) → x1 ≡ putWord xs 0 h → x2 ≡ putWord x1 4 size → x3 ≡ putWords x2 (λ l. 8 + 4 * l) (λ l. getD links l 0) h
     → x4 ≡ sets x3 (8 + 4 * h) (encode e) → x4 ≡ nodeWritten xs 0 h e (λ l. getD links l 0)
 unfolding nodeWritten
-node-put-together xs h size e links x1 x2 x3 x4 most s e1 e2 e3 e4 =
-    e4 ∙ ap (λ (r : List ℕ). sets r (8 + 4 * h) (encode e)) (e3 ∙ putWords-ext x2 (λ l. getD (spaced 8 12) l 0) (λ l. 0 + 8 + 4 * l) (λ l. getD links l 0) (λ l. getD links l 0) h (λ l k. spaced-at 8 12 l (omega arith)) (λ l k. refl)
-    ∙ ap (λ (r : List ℕ). putWords r (λ l. 0 + 8 + 4 * l) (λ l. getD links l 0) h) (e2 ∙ rw (e1, s)))
+node-put-together xs h size e links x1 x2 x3 x4 s e1 e2 e3 e4 =
+    e4 ∙ ap (λ (r : List ℕ). sets r (8 + 4 * h) (encode e)) (e3 ∙ ap (λ (r : List ℕ). putWords r (λ l. 8 + 4 * l) (λ l. getD links l 0) h) (e2 ∙ rw (e1, s)))
 
 -- ---- an entry put in
-
-repeated : (n v l : ℕ) → l < n → getD (replicate n v) l 0 ≡ v
-repeated zero v l h = absurd (omega arith)
-repeated (suc n) v zero h = refl
-repeated (suc n) v (suc l) h = repeated n v l (omega arith)
 
 -- links count only below the height
 node-links : (xs : List ℕ) (o h : ℕ) (e : Entry) (f g : ℕ → ℕ) → ((l : ℕ) → l < h → f l ≡ g l) → nodeWritten xs o h e f ≡ nodeWritten xs o h e g
@@ -72,12 +62,12 @@ written-same xs n o h e f g p q links places =
     ∙ ap (λ (r : List ℕ). putWord r 4 (suc n)) (putWords-ext (putWord (nodeWritten (putWord xs 8 (o + sizeOf h e)) o h e g) (length xs - 4 * suc n) o) p q (λ l. suc n) (λ l. suc n) h places (λ l k. refl))
 
 -- F, the node in the free part, its slot, the links to it, and n; the node has the links that were read
-pub entry-put-in : (xs : List ℕ) (h n used size : ℕ) (e : Entry) (places links : List ℕ) (x0 x1 x2 x3 x4 : List ℕ) → h ≤ levels → used ≤ length xs → size ≡ length (encode e) → LinksRead xs places h links
+pub entry-put-in : (xs : List ℕ) (h n used size : ℕ) (e : Entry) (places links : List ℕ) (x0 x1 x2 x3 x4 : List ℕ) → used ≤ length xs → size ≡ length (encode e) → LinksRead xs places h links
     → x0 ≡ putWord xs 8 (used + 8 + 4 * h + size) → x1 ≡ take used x0 ++ nodeWritten (drop used x0) 0 h e (λ l. getD links l 0) → x2 ≡ putWord x1 (length xs - 4 * (n + 1)) used
-    → x3 ≡ putWords x2 (λ l. getD places l 0) (λ l. getD (replicate 12 (n + 1)) l 0) h → x4 ≡ putWord x3 4 (n + 1) → x4 ≡ written xs n used h e (λ l. word xs (getD places l 0)) (λ l. getD places l 0)
+    → x3 ≡ putWords x2 (λ l. getD places l 0) (λ l. n + 1) h → x4 ≡ putWord x3 4 (n + 1) → x4 ≡ written xs n used h e (λ l. word xs (getD places l 0)) (λ l. getD places l 0)
 unfolding written
-entry-put-in xs h n used size e places links x0 x1 x2 x3 x4 most fits s read e0 e1 e2 e3 e4 =
-    e4 ∙ ap (λ (t : List ℕ). putWord t 4 (n + 1)) (e3 ∙ putWords-ext x2 (λ l. getD places l 0) (λ l. getD places l 0) (λ l. getD (replicate 12 (n + 1)) l 0) (λ l. n + 1) h (λ l k. refl) (λ l k. repeated 12 (n + 1) l (omega arith)))
+entry-put-in xs h n used size e places links x0 x1 x2 x3 x4 fits s read e0 e1 e2 e3 e4 =
+    e4 ∙ ap (λ (t : List ℕ). putWord t 4 (n + 1)) e3
     ∙ ap (λ (t : List ℕ). putWord (putWords t (λ l. getD places l 0) (λ l. n + 1) h) 4 (n + 1)) (e2 ∙ ap (λ (t : List ℕ). putWord t (length xs - 4 * (n + 1)) used) (e1 ∙ placed))
     ∙ rw (add-one n)
   where

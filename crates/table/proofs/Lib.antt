@@ -14,7 +14,6 @@ pub mod Asking
 pub mod Checking
 pub mod Cursors
 pub mod Views
-pub mod Spans
 pub mod Presences
 pub mod OneAnswer
 pub mod Laws

@@ -26,7 +26,7 @@ use Rattle.table.specs.Check.{Checked}
 use Rattle.table.specs.Questions.{cutOf, hitAs, Nears, newestAs, TellsNewest}
 use Rattle.table.specs.KeyTypes.{ordOf}
 use Rattle.table.specs.Skipmap.{turnRead, LinksFrom}
-use Rattle.table.specs.EntrySpans.{spanAs, Spans}
+use Rattle.table.specs.EntryViews.{spanAs, Spans}
 use Rattle.table.specs.declared.key_types.Ordering.{Ordering}
 use Rattle.table.specs.declared.key_types.Ordering.the-variants.{Less, Equal, Greater}
 use Rattle.table.specs.declared.skipmap.TurnRead.{TurnRead}
@@ -47,8 +47,8 @@ use Rattle.table.specs.declared.memtable_iter.CursorTest.{CursorTest}
 use Rattle.table.specs.declared.memtable_iter.CursorTest.the-variants as test
 use Rattle.table.specs.declared.memtable_iter.EntryMoved.{EntryMoved}
 use Rattle.table.specs.declared.memtable_iter.EntryMoved.the-variants.{To, Refused}
-use Rattle.table.specs.declared.entry_spans.SpanOn.{SpanOn}
-use Rattle.table.specs.declared.entry_spans.SpanOn.the-variants as span
+use Rattle.table.specs.declared.entry_views.SpanOn.{SpanOn}
+use Rattle.table.specs.declared.entry_views.SpanOn.the-variants as span
 use Rattle.table.specs.declared.questions.Cut.{Cut as CutHere}
 use Rattle.table.specs.declared.questions.Cut.the-variants as cut
 use Rattle.table.specs.declared.questions.Hit.{Hit}

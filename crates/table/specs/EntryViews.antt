@@ -1,4 +1,4 @@
--- What stands at an entry cursor, as the code tells it.
+-- What stands at an entry cursor, and where, as the code tells it.
 use Prim.Native.Nat.{ℕ, _+_, _≤_}
 use mathlib.Core.Path.{_≡_}
 use mathlib.Core.List.{List}
@@ -7,11 +7,13 @@ use Rattle.rule.specs.Lists.{Maybe, none, some}
 use Rattle.image.specs.Entries.{Parts as PartsIs}
 use Rattle.image.specs.Refusals.{Answer, refused, given, reading}
 use Rattle.image.specs.Nodes.{nodeAt}
-use Rattle.image.specs.EntryMoves.{Cursor, partsOn}
+use Rattle.image.specs.EntryMoves.{Cursor, partsOn, Span}
 use Rattle.table.specs.Entries.{partsOf}
 use Rattle.table.specs.Refusals.{refusalIs}
 use Rattle.table.specs.declared.entry_views.PartsOn.{PartsOn}
 use Rattle.table.specs.declared.entry_views.PartsOn.the-variants.{Nowhere, Node, Refused}
+use Rattle.table.specs.declared.entry_views.SpanOn.{SpanOn}
+use Rattle.table.specs.declared.entry_views.SpanOn.the-variants as span
 
 -- the answer
 abbrev pub partsOnAs : PartsOn → Answer (Maybe PartsIs)
@@ -39,3 +41,18 @@ pub record PartsOnIs (xs : List ℕ) (c : Cursor) (r : PartsOn) : Type 0 where
 abbrev pub shownNumber : Answer ℕ → ℕ
 shownNumber (refused r) = 0
 shownNumber (given n) = n
+
+-- where a view stands
+abbrev pub spanAs : SpanOn → Answer Span
+spanAs (span.At o n) = given (record { at = o; len = n })
+spanAs (span.Refused q) = refused (refusalIs q)
+
+-- the part lies in the image
+abbrev pub SpanLies : List ℕ → SpanOn → Type 0
+SpanLies xs (span.At o n) = o + n ≤ length xs
+SpanLies xs (span.Refused q) = Unit
+
+-- it is what the view v says, and lies in the image
+pub record Spans (xs : List ℕ) (v : Answer Span) (r : SpanOn) : Type 0 where
+  pub exact : spanAs r ≡ v
+  pub lies : SpanLies xs r

@@ -9,7 +9,6 @@ pub mod Questions
 pub mod Check
 pub mod MemtableIter
 pub mod EntryViews
-pub mod EntrySpans
 pub mod Presence
 pub mod Growth
 pub mod Scans

@@ -8,7 +8,7 @@ ghost use Rattle.image.specs.Limits.{maxKey, maxValue};
 ghost use Rattle.image.specs.Entries.{encode, keyedAt, restAt, keyIn, compareKeyed};
 ghost use Rattle.table.specs.Entries.{entry, EntrySize, Writable, keyedOf, keyedRead, KeyedFits, partsRead, PartsFits};
 use crate::key_types::LenRead;
-use crate::key_types::Ordering;
+use crate::key_types::Number;
 use crate::key_types::Tag;
 use crate::key_types::compare_entries;
 use crate::key_types::get_tag;
@@ -21,7 +21,7 @@ use crate::words::put_bytes;
 // The most bytes of a key, and of a value.
 pub const MAX_KEY: usize = 1024;
 
-pub const MAX_VALUE: usize = 4096;
+pub(crate) const MAX_VALUE: usize = 4096;
 
 // How many bytes an entry takes whose key and value have these lengths.
 pub(crate) fn entry_size(key_len: usize, value_len: usize) -> usize
@@ -39,13 +39,13 @@ pub(crate) fn put_entry(s: &mut [u8], at: usize, key: &[u8], number: u64, kind: 
     let key_at = put_len(s, at, key.len() + 8);
     put_bytes(s, key_at, key);
     let tag_at = key_at + key.len();
-    put_tag(s, tag_at, Tag::pack(number, kind));
+    put_tag(s, tag_at, Tag::pack(Number { is: number }, kind));
     let value_at = put_len(s, tag_at + 8, value.len());
     put_bytes(s, value_at, value);
 }
 
 // Where the key of an entry stands, its tag, and where its value's length begins.
-pub struct Keyed {
+pub(crate) struct Keyed {
     pub key_at: usize,
     pub key_len: usize,
     pub tag: Tag,
@@ -53,7 +53,7 @@ pub struct Keyed {
 }
 
 // Key and tag of an entry, or the place of the byte at fault.
-pub enum KeyedRead {
+pub(crate) enum KeyedRead {
     Got(Keyed),
     Bad(usize),
 }
@@ -106,23 +106,24 @@ pub(crate) fn entry_less(s: &[u8], a: Keyed, b: Keyed) -> bool
 {
     let a_tag = a.tag;
     let b_tag = b.tag;
-    let order = compare_entries(key_in(s, a), a_tag.number(), key_in(s, b), b_tag.number());
-    match order {
-        Ordering::Less => true,
-        Ordering::Equal => false,
-        Ordering::Greater => false,
-    }
+    let order = compare_entries(
+        key_in(s, a),
+        a_tag.number().is,
+        key_in(s, b),
+        b_tag.number().is,
+    );
+    order.is_less()
 }
 
 // Where the parts of an entry stand.
-pub struct Parts {
+pub(crate) struct Parts {
     pub keyed: Keyed,
     pub value_at: usize,
     pub value_len: usize,
 }
 
 // The parts of an entry, or the place of the byte at fault.
-pub enum PartsRead {
+pub(crate) enum PartsRead {
     Got(Parts),
     Bad(usize),
 }

@@ -1,9 +1,10 @@
-// What stands at an entry cursor: key, value, number and type, and the refusal of asking for them. Parts of the image are handed
-// back as they are, uncopied; nowhere, and where a view is refused, the part is empty.
+// What stands at an entry cursor: key, value, number and type, and the refusal of asking for them. Where key and value stand is told
+// as a span, offset and length in the image, which can be handed to any caller; a view is the part of the image that a span names,
+// uncopied. Nowhere, and where it is refused, a view is empty.
 ghost use mathlib.Core.Path.{_≡_};
 ghost use Rattle.image.specs.EntryMoves.{on, viewed, keyView, valueView, numberView, kindView, viewRefusal};
 ghost use Rattle.table.specs.MemtableIter.{cursorIs};
-ghost use Rattle.table.specs.EntryViews.{PartsOfNode, PartsOnIs, shownNumber};
+ghost use Rattle.table.specs.EntryViews.{PartsOfNode, PartsOnIs, shownNumber, spanAs, SpanLies, Spans};
 ghost use Rattle.table.specs.Nodes.{Numbered};
 use crate::entries::Parts;
 use crate::key_types::Tag;
@@ -16,7 +17,7 @@ use crate::nodes::node_of;
 use crate::refusals::Refusal;
 
 // The parts of the node at a cursor.
-pub enum PartsOn {
+pub(crate) enum PartsOn {
     Nowhere,
     Node(Parts),
     Refused(Refusal),
@@ -51,33 +52,75 @@ pub(crate) fn parts_on(s: &[u8], c: EntryCursor) -> PartsOn
     }
 }
 
+// A part of the image, or why it is refused. Nowhere, and of a deletion, it is the empty part at 0.
+pub enum SpanOn {
+    At { at: usize, len: usize },
+    Refused(Refusal),
+}
+
+// Where the key at a cursor stands. Refusals 1, 10, 9.
+pub fn entry_key_span(s: &[u8], c: EntryCursor) -> SpanOn
+    ensures { λ r. ⌜ Spans (now (s .entry)) (keyView (now (s .entry)) (cursorIs c)) r ⌝ }
+{
+    let parts = parts_on(s, c);
+    match parts {
+        PartsOn::Nowhere => SpanOn::At { at: 0, len: 0 },
+        PartsOn::Refused(q) => SpanOn::Refused(q),
+        PartsOn::Node(p) => {
+            let keyed = p.keyed;
+            SpanOn::At {
+                at: keyed.key_at,
+                len: keyed.key_len,
+            }
+        }
+    }
+}
+
+// Where the value at a cursor stands; a deletion's is empty. Refusals 1, 10, 9.
+pub fn entry_value_span(s: &[u8], c: EntryCursor) -> SpanOn
+    ensures { λ r. ⌜ Spans (now (s .entry)) (valueView (now (s .entry)) (cursorIs c)) r ⌝ }
+{
+    let parts = parts_on(s, c);
+    match parts {
+        PartsOn::Nowhere => SpanOn::At { at: 0, len: 0 },
+        PartsOn::Refused(q) => SpanOn::Refused(q),
+        PartsOn::Node(p) => {
+            let tag = p.keyed.tag;
+            if tag.kind() != Tag::VALUE {
+                return SpanOn::At { at: 0, len: 0 };
+            }
+            SpanOn::At {
+                at: p.value_at,
+                len: p.value_len,
+            }
+        }
+    }
+}
+
+// The part of the image that a span names.
+fn part_of(s: &[u8], span: SpanOn) -> &[u8]
+    requires { ⌜ SpanLies (now s) span ⌝ }
+    ensures { λ r. ⌜ now r ≡ viewed (now (s .entry)) (spanAs span) ⌝ }
+{
+    let SpanOn::At { at, len } = span else {
+        return &s[..0];
+    };
+    let end = at + len;
+    &s[at..end]
+}
+
 // The key at a cursor.
 pub fn entry_key(s: &[u8], c: EntryCursor) -> &[u8]
     ensures { λ r. ⌜ now r ≡ viewed (now (s .entry)) (keyView (now (s .entry)) (cursorIs c)) ⌝ }
 {
-    let PartsOn::Node(p) = parts_on(s, c) else {
-        return &s[..0];
-    };
-    let keyed = p.keyed;
-    let at = keyed.key_at;
-    let end = at + keyed.key_len;
-    &s[at..end]
+    part_of(s, entry_key_span(s, c))
 }
 
 // The value at a cursor; a deletion's is empty.
 pub fn entry_value(s: &[u8], c: EntryCursor) -> &[u8]
     ensures { λ r. ⌜ now r ≡ viewed (now (s .entry)) (valueView (now (s .entry)) (cursorIs c)) ⌝ }
 {
-    let PartsOn::Node(p) = parts_on(s, c) else {
-        return &s[..0];
-    };
-    let tag = p.keyed.tag;
-    if tag.kind() != Tag::VALUE {
-        return &s[..0];
-    }
-    let at = p.value_at;
-    let end = at + p.value_len;
-    &s[at..end]
+    part_of(s, entry_value_span(s, c))
 }
 
 // The number at a cursor; nowhere, and where it is refused, 0.
@@ -88,7 +131,7 @@ pub fn entry_number(s: &[u8], c: EntryCursor) -> u64
         return 0;
     };
     let tag = p.keyed.tag;
-    tag.number()
+    tag.number().is
 }
 
 // The type at a cursor; nowhere, and where it is refused, 0.
@@ -114,11 +157,18 @@ pub fn entry_refusal(s: &[u8], c: EntryCursor) -> u32
     }
 }
 
+// Where the value of a found node stands. Refusals 1, 10, 9.
+pub fn value_span(s: &[u8], node: usize) -> SpanOn
+    ensures { λ r. ⌜ Spans (now (s .entry)) (valueView (now (s .entry)) (on node)) r ⌝ }
+{
+    entry_value_span(s, EntryCursor::On(node))
+}
+
 // The value of a found node, a part of the image itself. Refusals 1, 10, 9.
 pub fn value(s: &[u8], node: usize) -> &[u8]
     ensures { λ r. ⌜ now r ≡ viewed (now (s .entry)) (valueView (now (s .entry)) (on node)) ⌝ }
 {
-    entry_value(s, EntryCursor::On(node))
+    part_of(s, value_span(s, node))
 }
 
 // The number of the refusal that asking for a node's value gets, or 0.

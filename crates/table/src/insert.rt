@@ -10,17 +10,33 @@ ghost use Rattle.table.specs.Entries.{entry};
 ghost use Rattle.table.specs.Insert.{NodeFits, PlacesInside, LinksRead, EntryFits, Sized, RoomIs, Insertable, Inserts};
 use crate::entries::entry_size;
 use crate::entries::put_entry;
+use crate::nodes::COUNT_AT;
+use crate::nodes::FREE_AT;
 use crate::nodes::Frame;
+use crate::nodes::HEAD_LINKS;
+use crate::nodes::HEADER_SIZE;
+use crate::nodes::LENGTH_AT;
+use crate::nodes::LEVELS;
+use crate::nodes::LEVELS_AT;
+use crate::nodes::LINKS_AT;
 use crate::nodes::MAX_NODES;
 use crate::skipmap::OnEqual;
 use crate::skipmap::Spot;
 use crate::skipmap::search;
 use crate::words::get_word;
-use crate::words::put_bytes;
 use crate::words::put_word;
 
-// Where the links of a node stand, counted from its start.
-const LINK_PLACES: [usize; 12] = [8, 12, 16, 20, 24, 28, 32, 36, 40, 44, 48, 52];
+// Writes the links of a node, or of the head, at the levels below the height, to a place and behind it.
+pub(crate) fn put_links(s: &mut [u8], at: usize, links: &[usize; 12], height: usize)
+    requires { ⌜ (height ≤ 12) × (at + 4 * height ≤ length (now s)) ⌝ }
+    ensures { λ _. ⌜ now (s .exit) ≡ putWords (now (s .entry)) (λ l. at + 4 * l) (λ l. getD (now (links .entry)) l 0) height ⌝ }
+{
+    let mut l = 0;
+    while l < height {
+        put_word(s, at + 4 * l, links[l]);
+        l += 1;
+    }
+}
 
 // Writes the header of an empty table: its length, no node, the first free byte behind the header, twelve levels and no links.
 pub(crate) fn fresh_header(s: &mut [u8])
@@ -28,23 +44,22 @@ pub(crate) fn fresh_header(s: &mut [u8])
     ensures { λ _. ⌜ now (s .exit) ≡ freshImage (now (s .entry)) ⌝ }
 {
     let len = s.len();
-    put_word(s, 0, len);
-    put_word(s, 4, 0);
-    put_word(s, 8, 64);
-    put_word(s, 12, 12);
-    let links = [0u8; 48];
-    put_bytes(s, 16, &links);
+    put_word(s, LENGTH_AT, len);
+    put_word(s, COUNT_AT, 0);
+    put_word(s, FREE_AT, HEADER_SIZE);
+    put_word(s, LEVELS_AT, LEVELS);
+    let links = [0usize; 12];
+    put_links(s, HEAD_LINKS, &links, LEVELS);
 }
 
-// Writes a word for each level below the height, each at its place.
-pub(crate) fn put_words(s: &mut [u8], places: &[usize; 12], values: &[usize; 12], height: usize)
-    requires { ⌜ height ≤ 12 ⌝ }
-    requires { ⌜ ((l : ℕ) → l < height → getD (now places) l 0 + 4 ≤ length (now s)) ⌝ }
-    ensures { λ _. ⌜ now (s .exit) ≡ putWords (now (s .entry)) (λ l. getD (now (places .entry)) l 0) (λ l. getD (now (values .entry)) l 0) height ⌝ }
+// Lets the link at each place, at the levels below the height, lead to a node.
+pub(crate) fn lead_to(s: &mut [u8], places: &[usize; 12], node: usize, height: usize)
+    requires { ⌜ PlacesInside (now s) (now places) height ⌝ }
+    ensures { λ _. ⌜ now (s .exit) ≡ putWords (now (s .entry)) (λ l. getD (now (places .entry)) l 0) (λ l. node) height ⌝ }
 {
     let mut l = 0;
     while l < height {
-        put_word(s, places[l], values[l]);
+        put_word(s, places[l], node);
         l += 1;
     }
 }
@@ -65,9 +80,8 @@ pub(crate) fn put_node(
     let size = entry_size(key.len(), value.len());
     put_word(free, 0, height);
     put_word(free, 4, size);
-    let places = LINK_PLACES;
-    put_words(free, &places, links, height);
-    put_entry(free, 8 + 4 * height, key, number, kind, value);
+    put_links(free, LINKS_AT, links, height);
+    put_entry(free, LINKS_AT + 4 * height, key, number, kind, value);
 }
 
 // What the links at these places hold, at each level below the height.
@@ -103,14 +117,13 @@ pub(crate) fn put_in(
     let links = read_links(s, places, height);
     let used = f.free;
     let node = f.count + 1;
-    let end = used + 8 + 4 * height + entry_size(key.len(), value.len());
+    let end = used + LINKS_AT + 4 * height + entry_size(key.len(), value.len());
     let len = s.len();
-    put_word(s, 8, end);
+    put_word(s, FREE_AT, end);
     put_node(&mut s[used..], height, &links, key, number, kind, value);
     put_word(s, len - 4 * node, used);
-    let nodes = [node; 12];
-    put_words(s, &places, &nodes, height);
-    put_word(s, 4, node);
+    lead_to(s, &places, node, height);
+    put_word(s, COUNT_AT, node);
     node
 }
 
@@ -133,7 +146,7 @@ pub(crate) fn has_room(
 }
 
 // What an insertion answers: the new node's number, or why nothing was written.
-pub enum Inserted {
+pub(crate) enum Inserted {
     At(usize),
     Duplicate,
     Full,

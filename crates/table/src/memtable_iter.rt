@@ -17,6 +17,7 @@ use crate::key_types::Number;
 use crate::nodes::Frame;
 use crate::nodes::FrameRead;
 use crate::nodes::HEAD_LINKS;
+use crate::nodes::LINKS_AT;
 use crate::nodes::NodeRead;
 use crate::nodes::node_of;
 use crate::nodes::read_frame;
@@ -64,7 +65,7 @@ pub fn test_cursor(s: &[u8], c: EntryCursor) -> CursorTest
 }
 
 // Where a cursor may go, or that damage was met.
-pub enum EntryFound {
+pub(crate) enum EntryFound {
     At(EntryCursor),
     Damaged,
 }
@@ -168,7 +169,7 @@ fn entry_after(s: &[u8], f: Frame, node: usize) -> EntryFound
     match read {
         NodeRead::Bad(_) => EntryFound::Damaged,
         NodeRead::Got(m) => {
-            let after = get_word(s, m.start + 8);
+            let after = get_word(s, m.start + LINKS_AT);
             if after > f.count {
                 return EntryFound::Damaged;
             }
@@ -189,7 +190,7 @@ fn entry_before(s: &[u8], f: Frame, node: usize) -> EntryFound
         NodeRead::Got(m) => {
             let keyed = m.parts.keyed;
             let tag = keyed.tag;
-            last_before(s, f, key_in(s, keyed), tag.number())
+            last_before(s, f, key_in(s, keyed), tag.number().is)
         }
     }
 }

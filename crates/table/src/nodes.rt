@@ -17,19 +17,30 @@ use crate::entries::rest_at;
 use crate::words::get_word;
 
 // Bytes of the header; no image is shorter, and the first node starts behind it.
-pub const HEADER_SIZE: usize = 64;
+pub(crate) const HEADER_SIZE: usize = 64;
 
 // The most bytes of an image.
-pub const MAX_IMAGE: usize = 65536;
+pub(crate) const MAX_IMAGE: usize = 65536;
 
 // The most nodes of an image.
-pub const MAX_NODES: usize = 4096;
+pub(crate) const MAX_NODES: usize = 4096;
 
 // Levels of links, which is also the height of the tallest node.
-pub const LEVELS: usize = 12;
+pub(crate) const LEVELS: usize = 12;
 
-// Where the links of the head stand in the header.
-pub const HEAD_LINKS: usize = 16;
+// Where the fields of the header stand: image length, node count, first free byte, level count, links of the head.
+pub(crate) const LENGTH_AT: usize = 0;
+
+pub(crate) const COUNT_AT: usize = 4;
+
+pub(crate) const FREE_AT: usize = 8;
+
+pub(crate) const LEVELS_AT: usize = 12;
+
+pub(crate) const HEAD_LINKS: usize = 16;
+
+// Where the links of a node stand, counted from its start.
+pub(crate) const LINKS_AT: usize = 8;
 
 // Count and first free byte of an image whose header holds, as they were read once.
 pub struct Frame {
@@ -38,7 +49,7 @@ pub struct Frame {
 }
 
 // The frame of an image, or that its header does not hold.
-pub enum FrameRead {
+pub(crate) enum FrameRead {
     Good(Frame),
     Bad,
 }
@@ -53,17 +64,17 @@ pub(crate) fn read_frame(s: &[u8]) -> FrameRead
     if s.len() > MAX_IMAGE {
         return FrameRead::Bad;
     }
-    if get_word(s, 0) != s.len() {
+    if get_word(s, LENGTH_AT) != s.len() {
         return FrameRead::Bad;
     }
-    if get_word(s, 12) != LEVELS {
+    if get_word(s, LEVELS_AT) != LEVELS {
         return FrameRead::Bad;
     }
-    let count = get_word(s, 4);
+    let count = get_word(s, COUNT_AT);
     if count > MAX_NODES {
         return FrameRead::Bad;
     }
-    let free = get_word(s, 8);
+    let free = get_word(s, FREE_AT);
     if free < HEADER_SIZE {
         return FrameRead::Bad;
     }
@@ -92,7 +103,7 @@ pub(crate) fn slot(s: &[u8], i: usize) -> usize
 }
 
 // What leads a node: its height, where its key stands, its tag, and where it ends.
-pub struct Lead {
+pub(crate) struct Lead {
     pub start: usize,
     pub height: usize,
     pub keyed: Keyed,
@@ -100,7 +111,7 @@ pub struct Lead {
 }
 
 // The lead of a node, or the place of the byte at fault.
-pub enum LeadRead {
+pub(crate) enum LeadRead {
     Got(Lead),
     Bad(usize),
 }
@@ -113,7 +124,7 @@ pub(crate) fn lead_at(s: &[u8], limit: usize, o: usize) -> LeadRead
     if o < HEADER_SIZE {
         return LeadRead::Bad(o);
     }
-    if o + 8 > limit {
+    if o + LINKS_AT > limit {
         return LeadRead::Bad(o);
     }
     let height = get_word(s, o);
@@ -123,7 +134,7 @@ pub(crate) fn lead_at(s: &[u8], limit: usize, o: usize) -> LeadRead
     if height > LEVELS {
         return LeadRead::Bad(o);
     }
-    let entry = o + 8 + 4 * height;
+    let entry = o + LINKS_AT + 4 * height;
     let end = entry + get_word(s, o + 4);
     if end > limit {
         return LeadRead::Bad(o);
@@ -141,7 +152,7 @@ pub(crate) fn lead_at(s: &[u8], limit: usize, o: usize) -> LeadRead
 }
 
 // A whole node.
-pub struct Node {
+pub(crate) struct Node {
     pub start: usize,
     pub height: usize,
     pub parts: Parts,
@@ -149,7 +160,7 @@ pub struct Node {
 }
 
 // A node, or the place of the byte at fault.
-pub enum NodeRead {
+pub(crate) enum NodeRead {
     Got(Node),
     Bad(usize),
 }

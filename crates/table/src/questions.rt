@@ -10,7 +10,6 @@ ghost use Rattle.table.specs.Memtable.{saidAs, andThen};
 ghost use Rattle.table.specs.MemtableIter.{foundAs};
 ghost use Rattle.table.specs.Questions.{nodesOf, cutOf, hitAs, Nears, newestAs, TellsNewest};
 use crate::key_types::Number;
-use crate::key_types::Ordering;
 use crate::key_types::compare_keys;
 use crate::memtable::Said;
 use crate::memtable::said_at;
@@ -56,14 +55,10 @@ pub fn population(s: &[u8]) -> usize
 }
 
 // Whether the key a is less than the key b.
-pub fn less(a: &[u8], b: &[u8]) -> bool
+fn less(a: &[u8], b: &[u8]) -> bool
     ensures { λ r. ⌜ r ≡ isLess (compareKeys (now (a .entry)) (now (b .entry))) ⌝ }
 {
-    match compare_keys(a, b) {
-        Ordering::Less => true,
-        Ordering::Equal => false,
-        Ordering::Greater => false,
-    }
+    compare_keys(a, b).is_less()
 }
 
 // Whether the key a comes before the key b on the way of a cut.

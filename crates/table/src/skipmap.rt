@@ -15,19 +15,20 @@ use crate::key_types::compare_entries;
 use crate::nodes::Frame;
 use crate::nodes::HEAD_LINKS;
 use crate::nodes::LEVELS;
+use crate::nodes::LINKS_AT;
 use crate::nodes::LeadRead;
 use crate::nodes::lead_of;
 use crate::words::get_word;
 
 // What a search does at a node equal to its probe.
-pub enum OnEqual {
+pub(crate) enum OnEqual {
     Stop,
     GoDown,
     Pass,
 }
 
 // What a look says: pass the node, whose links stand at a place, stop at it, or go down; or the place of the byte at fault.
-pub enum TurnRead {
+pub(crate) enum TurnRead {
     Onward(usize),
     Halt,
     Below,
@@ -75,14 +76,14 @@ pub(crate) fn meet_at(
             }
             let keyed = m.keyed;
             let tag = keyed.tag;
-            let o = compare_entries(key_in(s, keyed), tag.number(), k, number);
-            turn_by(mode, o, m.start + 8)
+            let o = compare_entries(key_in(s, keyed), tag.number().is, k, number);
+            turn_by(mode, o, m.start + LINKS_AT)
         }
     }
 }
 
 // Where a search ends: at a node equal to the probe, or between two nodes, or at a byte at fault; with the looks that it made.
-pub enum Spot {
+pub(crate) enum Spot {
     Hit {
         node: usize,
         looks: usize,
@@ -96,7 +97,7 @@ pub enum Spot {
 }
 
 // Where a search ends, and at each level the place of the link that it went down from.
-pub struct Searched {
+pub(crate) struct Searched {
     pub spot: Spot,
     pub places: [usize; 12],
 }

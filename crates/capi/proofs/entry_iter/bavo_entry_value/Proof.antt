@@ -2,7 +2,7 @@ use Rattle.capi.proofs.Meant.{meant}
 use Rattle.table.specs.declared.memtable_iter.EntryCursor.{EntryCursor}
 use Rattle.image.specs.EntryMoves.{valueView}
 use Rattle.table.specs.MemtableIter.{cursorIs}
-use Rattle.table.specs.EntrySpans.{Spans}
+use Rattle.table.specs.EntryViews.{Spans}
 use Rattle.capi.specs.Memtable.{plainView}
 use borrow.Author.Needs.{needs}
 use Rattle.capi.proofs.entry_iter.bavo_entry_value.Statement.{statement}
@@ -11,7 +11,7 @@ use Rattle.capi.proofs.entry_iter.bavo_entry_value.Reads as reads
 use Rattle.capi.proofs.entry_iter.bavo_entry_value.Lts as lts
 use Rattle.capi.proofs.entry_iter.entry_cursor_of.Reads as entry-cursor-of-reads
 use Rattle.capi.proofs.memtable.plain_view.Reads as plain-view-reads
-use Rattle.table.proofs.entry_spans.entry_value_span.Reads as entry-value-span-reads
+use Rattle.table.proofs.entry_views.entry_value_span.Reads as entry-value-span-reads
 
 -- src/entry_iter.rt:127:40
 entry-cursor-of-requires : tie.Need-entry-cursor-of-requires

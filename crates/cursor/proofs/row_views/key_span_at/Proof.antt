@@ -7,7 +7,7 @@ use Rattle.cursor.proofs.row_views.key_span_at.Reads as reads
 use Rattle.cursor.proofs.row_views.key_span_at.Lts as lts
 use Rattle.cursor.proofs.places.image_of.Reads as image-of-reads
 use Rattle.cursor.proofs.row_views.span_in.Reads as span-in-reads
-use Rattle.table.proofs.entry_spans.entry_key_span.Reads as entry-key-span-reads
+use Rattle.table.proofs.entry_views.entry_key_span.Reads as entry-key-span-reads
 
 -- src/row_views.rt:47:9
 image-of-requires : tie.Need-image-of-requires

@@ -4,7 +4,7 @@ use Rattle.moving.proofs.insert.put_in.Statement.{statement}
 use Rattle.moving.proofs.insert.put_in.Tie as tie
 
 read-links-requires : tie.Need-read-links-requires
-read-links-requires c κs = (c .before .before .before .before .pre .sized .tall, c .before .before .before .before .pre .inside)
+read-links-requires c κs = search needs
 
 add-node : tie.Need-add-node
 add-node c = search needs
@@ -48,11 +48,12 @@ sub-put-word c = search needs
 put-word-requires-2 : tie.Need-put-word-requires-2
 put-word-requires-2 c κs = search needs
 
-put-words-requires : tie.Need-put-words-requires
-put-words-requires c κs = (c .before .before .before .before .before .before .before .before .before .before .before .before .before .before .before .before .before .before .before .before .before .before .before .pre .sized .tall, record { each = λ l h. omega (arith, c .before .before .before .before .before .before .before .before .before .before .before .before .before .before .before .before .before .before .before .before .before .before .before .pre .inside .each l (omega (arith, h, c .before .before .before .before .before .before .before .before .before .before .before .before .before .before .before .before .before .before .before .before .before .before .before .pre .sized .tall)), c .before .before .before .before .before .put-word2 .ensures, c .before .before .before .before .before .before .before .before .before .put-node .ensures, c .before .before .before .before .before .before .before .before .before .before .before .before .before .before .put-word .ensures) })
+lead-to-requires : tie.Need-lead-to-requires
+lead-to-requires c κs = let pre = c .before .before .before .before .before .before .before .before .before .before .before .before .before .before .before .before .before .before .before .before .before .before .pre in let tall = pre .sized .tall in
+    (tall, record { each = λ l h. omega (arith, pre .inside .each l (omega (arith, h, tall)), c .before .before .before .before .put-word2 .ensures, c .before .before .before .before .before .before .before .before .put-node .ensures, c .before .before .before .before .before .before .before .before .before .before .before .before .before .put-word .ensures) })
 
 put-word-requires-3 : tie.Need-put-word-requires-3
-put-word-requires-3 c κs = omega (arith, c .before .before .before .before .before .before .before .before .before .before .before .before .before .before .before .before .before .before .before .before .before .before .before .before .before .before .before .pre .sized .within .low, c .before .before .before .before .before .before .before .before .before .before .before .before .before .before .before .before .before .before .before .before .before .before .before .before .before .before .before .pre .sized .within .high, c .before .before .before .put-words .ensures)
+put-word-requires-3 c κs = let within = c .before .before .before .before .before .before .before .before .before .before .before .before .before .before .before .before .before .before .before .before .before .before .before .before .before .before .pre .sized .within in omega (arith, within .low, within .high, c .before .before .before .lead-to .ensures)
 
 same-length : tie.Need-same-length
 same-length c = search needs
@@ -79,7 +80,7 @@ put-in-spec =
     mul-put-word
     sub-put-word
     put-word-requires-2
-    put-words-requires
+    lead-to-requires
     put-word-requires-3
     same-length
     returns)

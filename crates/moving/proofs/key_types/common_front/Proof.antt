@@ -22,11 +22,11 @@ sub-if1 c = search needs
 returns : tie.Need-returns Inv-loop μ-loop
 returns c = search needs
 
-get-tag-requires : tie.Need-get-tag-requires Inv-loop μ-loop
-get-tag-requires c κs = search needs
+get-u64-requires : tie.Need-get-u64-requires Inv-loop μ-loop
+get-u64-requires c κs = search needs
 
-get-tag-requires-2 : tie.Need-get-tag-requires-2 Inv-loop μ-loop
-get-tag-requires-2 c κs = search needs
+get-u64-requires-2 : tie.Need-get-u64-requires-2 Inv-loop μ-loop
+get-u64-requires-2 c κs = search needs
 
 returns-2 : tie.Need-returns-2 Inv-loop μ-loop
 returns-2 c = search needs
@@ -53,8 +53,8 @@ common-front-spec =
     sub-loop
     sub-if1
     returns
-    get-tag-requires
-    get-tag-requires-2
+    get-u64-requires
+    get-u64-requires-2
     returns-2
     add-i
     loop-less

@@ -3,7 +3,7 @@ use Rattle.moving.proofs.row_views.key_span_at.Statement.{statement}
 use Rattle.moving.proofs.row_views.key_span_at.Tie as tie
 use Rattle.moving.proofs.row_views.key_span_at.Reads as reads
 use Rattle.moving.proofs.row_views.key_span_at.Lts as lts
-use Rattle.moving.proofs.entry_spans.entry_key_span.Reads as entry-key-span-reads
+use Rattle.moving.proofs.entry_views.entry_key_span.Reads as entry-key-span-reads
 use Rattle.moving.proofs.places.image_of.Reads as image-of-reads
 use Rattle.moving.proofs.row_views.span_in.Reads as span-in-reads
 

@@ -1,6 +1,6 @@
 -- `entries::entry_less`: keys and numbers where they stand, and their order.
+use mathlib.Core.Path.{_∙_}
 use Rattle.table.specs.Entries.{keyedOf}
--- `entries::entry_less`: keys and numbers where they stand, and their order.
 use Rattle.table.proofs.EntryBytes.{less-by}
 use borrow.Author.Needs.{needs}
 use Rattle.table.proofs.entries.entry_less.Statement.{statement}
@@ -21,23 +21,11 @@ number-requires-2 c κs = search needs
 compare-entries-requires : tie.Need-compare-entries-requires
 compare-entries-requires c κs = search needs
 
-enum-told : tie.Need-enum-told
-enum-told c = search needs
-
-enum-told-2 : tie.Need-enum-told-2
-enum-told-2 c = search needs
-
-enum-told-3 : tie.Need-enum-told-3
-enum-told-3 c = search needs
+is-less-requires : tie.Need-is-less-requires
+is-less-requires c κs = search needs
 
 returns : tie.Need-returns
-returns c = less-by (c .before .before .before .before .before .before .before .before .before .before .args .s .now) (keyedOf (c .before .before .before .before .before .before .before .before .before .before .args .a)) (keyedOf (c .before .before .before .before .before .before .before .before .before .before .args .b)) (c .before .before .before .before .before .before .key-in .ensures) (c .before .before .before .before .before .number .ensures) (c .before .before .before .before .key-in2 .ensures) (c .before .before .before .number2 .ensures) (rw (c .enum-told .given .1) at (c .before .before .compare-entries .ensures))
-
-returns-2 : tie.Need-returns-2
-returns-2 c = less-by (c .before .before .before .before .before .before .before .before .before .before .args .s .now) (keyedOf (c .before .before .before .before .before .before .before .before .before .before .args .a)) (keyedOf (c .before .before .before .before .before .before .before .before .before .before .args .b)) (c .before .before .before .before .before .before .key-in .ensures) (c .before .before .before .before .before .number .ensures) (c .before .before .before .before .key-in2 .ensures) (c .before .before .before .number2 .ensures) (rw (c .enum-told2 .given .1) at (c .before .before .compare-entries .ensures))
-
-returns-3 : tie.Need-returns-3
-returns-3 c = less-by (c .before .before .before .before .before .before .before .before .before .before .args .s .now) (keyedOf (c .before .before .before .before .before .before .before .before .before .before .args .a)) (keyedOf (c .before .before .before .before .before .before .before .before .before .before .args .b)) (c .before .before .before .before .before .before .key-in .ensures) (c .before .before .before .before .before .number .ensures) (c .before .before .before .before .key-in2 .ensures) (c .before .before .before .number2 .ensures) (rw (c .enum-told3 .given .1) at (c .before .before .compare-entries .ensures))
+returns c = let a = c .before .before .before .before .before .before .before .before .before .args in c .is-less .ensures ∙ less-by (a .s .now) (keyedOf (a .a)) (keyedOf (a .b)) (c .before .before .before .before .before .key-in .ensures) (c .before .before .before .before .number .ensures) (c .before .before .before .key-in2 .ensures) (c .before .before .number2 .ensures) (c .before .compare-entries .ensures)
 
 pub entry-less-spec : {M : Type 1} → statement M
 entry-less-spec =
@@ -48,9 +36,5 @@ entry-less-spec =
     key-in-requires-2
     number-requires-2
     compare-entries-requires
-    enum-told
-    enum-told-2
-    enum-told-3
-    returns
-    returns-2
-    returns-3)
+    is-less-requires
+    returns)

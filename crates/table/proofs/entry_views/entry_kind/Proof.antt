@@ -5,28 +5,19 @@ use mathlib.Core.Path.{_≡_, refl, sym, ap, _∙_}
 use borrow.Author.Needs.{needs}
 use Rattle.table.proofs.entry_views.entry_kind.Statement.{statement}
 use Rattle.table.proofs.entry_views.entry_kind.Tie as tie
-use Rattle.table.proofs.entry_views.entry_kind.Reads as reads
-use Rattle.table.proofs.entry_views.entry_kind.Lts as lts
-use Rattle.table.proofs.entry_views.parts_on.Reads as parts-on-reads
-use Rattle.table.proofs.key_types.Tag.kind.Reads as kind-reads
 
--- src/entry_views.rt:97:28
 parts-on-requires : tie.Need-parts-on-requires
 parts-on-requires c κs = search needs
 
--- src/entry_views.rt:97:23
 enum-known-p : tie.Need-enum-known-p
 enum-known-p c = search needs
 
--- src/entry_views.rt:98:9
 returns : tie.Need-returns
 returns c = let a = c .before .before .before .args in bare-number (a .s .now) (cursorIs (a .c)) (c .before .parts-on .result) (c .before .parts-on .ensures) (bare-else (c .before .parts-on .result) (c .match .keys2)) kindIn
 
--- src/entry_views.rt:101:5
 kind-requires : tie.Need-kind-requires
 kind-requires c κs = search needs
 
--- src/entry_views.rt:94:1
 returns-2 : tie.Need-returns-2
 returns-2 c = let a = c .before .before .before .before .before .before .before .args in c .kind .ensures ∙ shown-number (a .s .now) (cursorIs (a .c)) (c .before .before .before .before .before .parts-on .result) (c .before .before .before .before .before .parts-on .ensures) _ (c .before .before .before .p .given .1) kindIn
 

@@ -5,28 +5,19 @@ use mathlib.Core.Path.{_≡_, refl, sym, ap, _∙_}
 use borrow.Author.Needs.{needs}
 use Rattle.table.proofs.entry_views.entry_number.Statement.{statement}
 use Rattle.table.proofs.entry_views.entry_number.Tie as tie
-use Rattle.table.proofs.entry_views.entry_number.Reads as reads
-use Rattle.table.proofs.entry_views.entry_number.Lts as lts
-use Rattle.table.proofs.entry_views.parts_on.Reads as parts-on-reads
-use Rattle.table.proofs.key_types.Tag.number.Reads as number-reads
 
--- src/entry_views.rt:86:28
 parts-on-requires : tie.Need-parts-on-requires
 parts-on-requires c κs = search needs
 
--- src/entry_views.rt:86:23
 enum-known-p : tie.Need-enum-known-p
 enum-known-p c = search needs
 
--- src/entry_views.rt:87:9
 returns : tie.Need-returns
 returns c = let a = c .before .before .before .args in bare-number (a .s .now) (cursorIs (a .c)) (c .before .parts-on .result) (c .before .parts-on .ensures) (bare-else (c .before .parts-on .result) (c .match .keys2)) (λ (p : Parts). numberIn (p .keyed))
 
--- src/entry_views.rt:90:5
 number-requires : tie.Need-number-requires
 number-requires c κs = search needs
 
--- src/entry_views.rt:83:1
 returns-2 : tie.Need-returns-2
 returns-2 c = let a = c .before .before .before .before .before .before .before .args in c .number .ensures ∙ shown-number (a .s .now) (cursorIs (a .c)) (c .before .before .before .before .before .parts-on .result) (c .before .before .before .before .before .parts-on .ensures) _ (c .before .before .before .p .given .1) (λ (p : Parts). numberIn (p .keyed))
 

@@ -53,21 +53,22 @@ sub-put-word c = search needs
 put-word-requires-2 : tie.Need-put-word-requires-2
 put-word-requires-2 c κs = search needs
 
-put-words-requires : tie.Need-put-words-requires
-put-words-requires c κs = let p = c .before .before .before .before .before .before .before .before .before .before .before .before .before .before .before .before .before .before .before .before .before .before .before .pre .places-inside in (omega (arith, p .height-most), λ l k. omega (arith, p .inside l k))
+lead-to-requires : tie.Need-lead-to-requires
+lead-to-requires c κs = let p = c .before .before .before .before .before .before .before .before .before .before .before .before .before .before .before .before .before .before .before .before .before .before .pre .places-inside in record { height-most = p .height-most; inside = λ l k. omega (arith, p .inside l k) }
 
 put-word-requires-3 : tie.Need-put-word-requires-3
-put-word-requires-3 c κs = omega (arith, c .before .before .before .before .before .before .before .before .before .before .before .before .before .before .before .before .before .before .before .before .before .before .before .before .before .before .before .pre .long)
+put-word-requires-3 c κs = search needs
 
 same-length : tie.Need-same-length
 same-length c = search needs
 
 returns : tie.Need-returns
-returns c = let a = c .before .before .before .before .before .before .before .before .before .before .before .before .before .before .before .before .before .before .before .before .before .before .before .before .before .before .before .before .before .before .args in let pre = c .before .before .before .before .before .before .before .before .before .before .before .before .before .before .before .before .before .before .before .before .before .before .before .before .before .before .before .before .before .before .pre in let used = a .f .free in (
-  refl,
-  entry-put-in (a .s .now) (a .height) (a .f .count) used _ (entry (a .key .now) (a .number) (a .kind) (a .value .now)) _ (c .before .before .before .before .before .before .before .before .before .before .before .before .before .before .before .before .before .before .before .before .before .before .before .before .before .read-links .result) _ _ _ _ _ (pre .places-inside .height-most) (omega (arith, pre .room)) (c .before .before .before .before .before .before .before .before .before .before .before .before .before .before .before .before .before .before .before .before .before .before .before .entry-size .ensures .is (entry (a .key .now) (a .number) (a .kind) (a .value .now)) refl refl) (c .before .before .before .before .before .before .before .before .before .before .before .before .before .before .before .before .before .before .before .before .before .before .before .before .before .read-links .ensures) (c .before .before .before .before .before .before .before .before .before .before .before .before .before .before .before .before .before .before .before .before .before .put-word .ensures)
-      (tail-back _ used (c .before .before .before .before .before .before .before .before .before .before .before .before .before .before .before .before .put-node .last .0) ∙ rw (c .before .before .before .before .before .before .before .before .before .before .before .before .before .before .before .before .put-node .ensures, tail-lent _ used)) (c .before .before .before .before .before .before .before .before .before .before .before .before .put-word2 .ensures) (c .before .before .before .before .before .before .put-words .ensures) (c .before .before .put-word3 .ensures),
-)
+returns c = let a = c .before .before .before .before .before .before .before .before .before .before .before .before .before .before .before .before .before .before .before .before .before .before .before .before .before .before .before .before .before .args in let pre = c .before .before .before .before .before .before .before .before .before .before .before .before .before .before .before .before .before .before .before .before .before .before .before .before .before .before .before .before .before .pre in let used = a .f .free in let e = entry (a .key .now) (a .number) (a .kind) (a .value .now) in
+    let size = c .before .before .before .before .before .before .before .before .before .before .before .before .before .before .before .before .before .before .before .before .before .before .entry-size .ensures .is e refl refl in let done = c .before .before .before .before .before .before .before .before .before .before .before .before .before .before .before .put-node in (
+      refl,
+      entry-put-in (a .s .now) (a .height) (a .f .count) used _ e _ (c .before .before .before .before .before .before .before .before .before .before .before .before .before .before .before .before .before .before .before .before .before .before .before .before .read-links .result) _ _ _ _ _ (omega (arith, pre .room)) size (c .before .before .before .before .before .before .before .before .before .before .before .before .before .before .before .before .before .before .before .before .before .before .before .before .read-links .ensures) (c .before .before .before .before .before .before .before .before .before .before .before .before .before .before .before .before .before .before .before .before .put-word .ensures)
+          (tail-back _ used (done .last .0) ∙ rw (done .ensures, tail-lent _ used)) (c .before .before .before .before .before .before .before .before .before .before .before .put-word2 .ensures) (c .before .before .before .before .before .before .lead-to .ensures) (c .before .before .put-word3 .ensures),
+    )
 
 pub put-in-spec : {M : Type 1} → statement M
 put-in-spec =
@@ -88,7 +89,7 @@ put-in-spec =
     mul-put-word
     sub-put-word
     put-word-requires-2
-    put-words-requires
+    lead-to-requires
     put-word-requires-3
     same-length
     returns)

@@ -27,14 +27,14 @@ sub-if1 c = search needs
 returns : tie.Need-returns Inv-loop μ-loop
 returns c = let l = c .before .before .loop .inv in front-left _ _ _ (l .0) (l .1) (l .2)
 
-get-tag-requires : tie.Need-get-tag-requires Inv-loop μ-loop
-get-tag-requires c κs = search needs
+get-u64-requires : tie.Need-get-u64-requires Inv-loop μ-loop
+get-u64-requires c κs = search needs
 
-get-tag-requires-2 : tie.Need-get-tag-requires-2 Inv-loop μ-loop
-get-tag-requires-2 c κs = search needs
+get-u64-requires-2 : tie.Need-get-u64-requires-2 Inv-loop μ-loop
+get-u64-requires-2 c κs = search needs
 
 returns-2 : tie.Need-returns-2 Inv-loop μ-loop
-returns-2 c = let l = c .before .before .before .before .before .before .before .loop .inv in front-left _ _ _ (l .0) (l .1) (l .2)
+returns-2 c = let l = c .before .before .before .before .before .loop .inv in front-left _ _ _ (l .0) (l .1) (l .2)
 
 add-i : tie.Need-add-i Inv-loop μ-loop
 add-i c = search needs
@@ -43,7 +43,10 @@ loop-less : tie.Need-loop-less Inv-loop μ-loop
 loop-less c = search needs
 
 loop-again : tie.Need-loop-again Inv-loop μ-loop
-loop-again c = (search needs, search needs, c .before .before .before .before .before .before .before .loop .inv .2 ∙ same-bytes 8 _ _ _ (λ i. c .before .before .before .before .before .before .before .before .before .shared-slice-known .given i .fits) (λ i. c .before .before .before .before .before .before .before .before .shared-slice-known2 .given i .fits) (omega (arith, c .before .before .before .before .before .before .loop-test .taken)) (omega (arith, c .before .before .before .before .before .if1 .left)) (sym (c .before .before .before .before .get-tag .ensures) ∙ c .if2 .left ∙ c .before .before .before .get-tag2 .ensures))
+loop-again c = let same = sym (c .before .before .get-u64 .ensures) ∙ c .if2 .left ∙ c .before .get-u642 .ensures in
+    let known = c .before .before .before .before .before .before .before .shared-slice-known in let known2 = c .before .before .before .before .before .before .shared-slice-known2 in
+    let bytes = same-bytes 8 (c .before .before .before .before .before .before .before .before .args .a .now) (c .before .before .before .before .before .before .before .before .args .b .now) (c .before .before .before .before .before .loop .i) (λ i. known .given i .fits) (λ i. known2 .given i .fits) (omega (arith, c .before .before .before .before .loop-test .taken)) (omega (arith, c .before .before .before .if1 .left)) same in
+    (search needs, search needs, c .before .before .before .before .before .loop .inv .2 ∙ bytes)
 
 returns-3 : tie.Need-returns-3 Inv-loop μ-loop
 returns-3 c = let l = c .before .loop .inv in front-left _ _ _ (l .0) (l .1) (l .2)
@@ -58,8 +61,8 @@ common-front-spec =
     sub-loop
     sub-if1
     returns
-    get-tag-requires
-    get-tag-requires-2
+    get-u64-requires
+    get-u64-requires-2
     returns-2
     add-i
     loop-less

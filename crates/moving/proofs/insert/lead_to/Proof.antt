@@ -3,14 +3,14 @@ use mathlib.Core.Path.{_≡_}
 use lib.ListN.{length}
 use Prim.Native.Nat.{_≤_, _-_}
 use borrow.Author.Needs.{needs}
-use Rattle.moving.proofs.insert.put_words.Statement.{statement}
-use Rattle.moving.proofs.insert.put_words.Tie as tie
+use Rattle.moving.proofs.insert.lead_to.Statement.{statement}
+use Rattle.moving.proofs.insert.lead_to.Tie as tie
 
 abbrev Inv-loop : tie.InvT-loop
-Inv-loop s₀ places values height l₀ s l = (length s ≡ length s₀) × (l ≤ height)
+Inv-loop s₀ places node height l₀ s l = (length s ≡ length s₀) × (l ≤ height)
 
 abbrev μ-loop : tie.MeasureT-loop
-μ-loop s₀ places values height l₀ s l = height - l
+μ-loop s₀ places node height l₀ s l = height - l
 
 loop-holds : tie.Need-loop-holds Inv-loop μ-loop
 loop-holds c = search needs
@@ -21,14 +21,8 @@ mul-put-word c = search needs
 element-copy-out-put-word : tie.Need-element-copy-out-put-word Inv-loop μ-loop
 element-copy-out-put-word c = search needs
 
-mul-put-word-2 : tie.Need-mul-put-word-2 Inv-loop μ-loop
-mul-put-word-2 c = search needs
-
-element-copy-out-put-word-2 : tie.Need-element-copy-out-put-word-2 Inv-loop μ-loop
-element-copy-out-put-word-2 c = search needs
-
 put-word-requires : tie.Need-put-word-requires Inv-loop μ-loop
-put-word-requires c κs = omega (arith, c .before .before .before .before .before .before .pre .1 .each (c .before .before .before .before .loop .l) (c .before .before .before .loop-test .taken))
+put-word-requires c κs = omega (arith, c .before .before .before .before .before .pre .1 .each (c .before .before .before .loop .l) (c .before .before .loop-test .taken))
 
 add-l : tie.Need-add-l Inv-loop μ-loop
 add-l c = search needs
@@ -45,8 +39,8 @@ same-length c = search needs
 returns : tie.Need-returns Inv-loop μ-loop
 returns c = search needs
 
-pub put-words-spec : {M : Type 1} → statement M
-put-words-spec =
+pub lead-to-spec : {M : Type 1} → statement M
+lead-to-spec =
     tie.close
     (tie.spec
     Inv-loop
@@ -54,8 +48,6 @@ put-words-spec =
     loop-holds
     mul-put-word
     element-copy-out-put-word
-    mul-put-word-2
-    element-copy-out-put-word-2
     put-word-requires
     add-l
     loop-less

@@ -1,47 +1,34 @@
-use Rattle.table.proofs.Spans.{span-nowhere, span-refused, span-deletion, span-value}
+use Rattle.table.proofs.Views.{span-nowhere, span-refused, span-deletion, span-value}
 use Rattle.image.specs.EntryMoves.{valueSpan}
 use Rattle.table.specs.MemtableIter.{cursorIs}
 use borrow.Author.Needs.{needs}
-use Rattle.table.proofs.entry_spans.entry_value_span.Statement.{statement}
-use Rattle.table.proofs.entry_spans.entry_value_span.Tie as tie
-use Rattle.table.proofs.entry_spans.entry_value_span.Reads as reads
-use Rattle.table.proofs.entry_spans.entry_value_span.Lts as lts
-use Rattle.table.proofs.entry_views.parts_on.Reads as parts-on-reads
-use Rattle.table.proofs.key_types.Tag.kind.Reads as kind-reads
+use Rattle.table.proofs.entry_views.entry_value_span.Statement.{statement}
+use Rattle.table.proofs.entry_views.entry_value_span.Tie as tie
 
--- src/entry_spans.rt:41:9
 parts-on-requires : tie.Need-parts-on-requires
 parts-on-requires c κs = search needs
 
--- src/entry_spans.rt:43:29
 enum-told : tie.Need-enum-told
 enum-told c = search needs
 
--- src/entry_spans.rt:44:26
 enum-known-parts : tie.Need-enum-known-parts
 enum-known-parts c = search needs
 
--- src/entry_spans.rt:45:23
 enum-known-parts-2 : tie.Need-enum-known-parts-2
 enum-known-parts-2 c = search needs
 
--- src/entry_spans.rt:47:16
 kind-requires : tie.Need-kind-requires
 kind-requires c κs = search needs
 
--- src/entry_spans.rt:48:17
 returns : tie.Need-returns
 returns c = let a = c .before .before .before .before .before .before .before .before .args in span-deletion (a .s .now) (cursorIs (a .c)) (c .before .before .before .before .before .before .parts-on .ensures) _ (c .before .before .before .before .parts2 .given .1) (c .before .kind .ensures) (c .if1 .taken)
 
--- src/entry_spans.rt:38:1
 returns-2 : tie.Need-returns-2
 returns-2 c = let a = c .before .before .before .before .args in span-nowhere (a .s .now) (cursorIs (a .c)) (c .before .before .parts-on .ensures) (c .enum-told .given .1) valueSpan
 
--- src/entry_spans.rt:38:1
 returns-3 : tie.Need-returns-3
 returns-3 c = let a = c .before .before .before .before .before .args in span-refused (a .s .now) (cursorIs (a .c)) (c .before .before .before .parts-on .ensures) (c .before .parts .given .1) valueSpan
 
--- src/entry_spans.rt:38:1
 returns-4 : tie.Need-returns-4
 returns-4 c = let a = c .before .before .before .before .before .before .before .before .args in span-value (a .s .now) (cursorIs (a .c)) (c .before .before .before .before .before .before .parts-on .ensures) _ (c .before .before .before .before .parts2 .given .1) (c .before .kind .ensures) (c .if1 .left)
 

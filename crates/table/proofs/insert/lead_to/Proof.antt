@@ -1,0 +1,58 @@
+use Prim.Native.Nat.{ℕ, _+_, _-_, _*_, _≤_}
+use native.Mathlib.Omega.{arith}
+use mathlib.Core.Path.{_≡_, refl, ap, _∙_}
+use lib.ListN.{length, getD}
+use borrow.Author.Needs.{needs}
+use Rattle.image.specs.Words.{putWords}
+use Rattle.image.proofs.Words.{length-putWord, putWords-none, putWords-next}
+use Rattle.table.proofs.insert.lead_to.Statement.{statement}
+use Rattle.table.proofs.insert.lead_to.Tie as tie
+
+abbrev Inv-loop : tie.InvT-loop
+Inv-loop s₀ places node height l₀ s l = (l ≤ height) × (length s ≡ length s₀) × (s ≡ putWords s₀ (λ i. getD places i 0) (λ i. node) l)
+
+abbrev μ-loop : tie.MeasureT-loop
+μ-loop s₀ places node height l₀ s l = height - l
+
+loop-holds : tie.Need-loop-holds Inv-loop μ-loop
+loop-holds c = (omega arith, refl, putWords-none _ _ _)
+
+mul-put-word : tie.Need-mul-put-word Inv-loop μ-loop
+mul-put-word c = search needs
+
+element-copy-out-put-word : tie.Need-element-copy-out-put-word Inv-loop μ-loop
+element-copy-out-put-word c = search needs
+
+put-word-requires : tie.Need-put-word-requires Inv-loop μ-loop
+put-word-requires c κs = omega (arith, c .before .before .before .before .before .pre .inside (c .before .before .before .loop .l) (c .before .before .loop-test .taken))
+
+add-l : tie.Need-add-l Inv-loop μ-loop
+add-l c = search needs
+
+loop-less : tie.Need-loop-less Inv-loop μ-loop
+loop-less c = search needs
+
+loop-again : tie.Need-loop-again Inv-loop μ-loop
+loop-again c = let turn = c .before .before .before .before .before .before .loop in (omega arith, ap length (c .before .before .put-word .ensures) ∙ length-putWord _ _ _ ∙ turn .inv .1, putWords-next _ _ _ _ _ _ (turn .inv .2) (c .before .before .put-word .ensures))
+
+same-length : tie.Need-same-length Inv-loop μ-loop
+same-length c = c .before .loop .inv .1
+
+returns : tie.Need-returns Inv-loop μ-loop
+returns c = let done : c .before .loop .l ≡ c .before .before .before .args .height = omega arith in c .before .loop .inv .2 ∙ ap (putWords _ _ _) done
+
+pub lead-to-spec : {M : Type 1} → statement M
+lead-to-spec =
+    tie.close
+    (tie.spec
+    Inv-loop
+    μ-loop
+    loop-holds
+    mul-put-word
+    element-copy-out-put-word
+    put-word-requires
+    add-l
+    loop-less
+    loop-again
+    same-length
+    returns)
