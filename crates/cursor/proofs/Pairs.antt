@@ -1,7 +1,7 @@
 -- Lookup in a pair of tables.
 use Prim.Native.Nat.{ℕ, _+_, _≤_}
 use native.Mathlib.Omega.{arith}
-use mathlib.Core.Path.{_≡_, refl, sym, ap, _∙_}
+use mathlib.Core.Path.{_≡_, refl, sym, _∙_}
 use mathlib.Core.Logic.{inl, inr}
 use mathlib.Core.List.{List}
 use mathlib.Core.Bool.{Bool, true, false, not}
@@ -11,13 +11,12 @@ use Rattle.rule.specs.Lists.{cond}
 use Rattle.image.specs.Limits.{maxKey, maxNumber, maxNodes, levels}
 use Rattle.image.specs.Nodes.{count}
 use Rattle.image.specs.Sound.{Sound, headerHolds}
-use Rattle.image.specs.Refusals.{badImage, Answer, refused, given}
+use Rattle.image.specs.Refusals.{Answer, refused, given}
 use Rattle.image.specs.Lookup.{Looked, Lookup, get}
 use Rattle.image.specs.Lookup as one
 use Rattle.image.specs.Meaning.{Tells}
 use Rattle.image.proofs.Sound.{header-complete}
-use Rattle.image.proofs.Refusals.{refused-given, given-same, demand-given}
-use Rattle.image.proofs.Lookup.{get-given, get-tells}
+use Rattle.image.proofs.Lookup.{get-tells}
 use Rattle.table.specs.Memtable.{lookupAs, Gets}
 use Rattle.table.specs.declared.refusals.Refusal.{Refusal}
 use Rattle.table.specs.declared.refusals.Refusal.the-variants as refusal
@@ -63,51 +62,24 @@ module _ (f k : List ℕ) (s : ℕ) {a : LookupHere} (ga : Gets f k s a) where
 
 module _ (f g k : List ℕ) (s : ℕ) where
   -- on sound tables
-  pair-tells : Sound f → Sound g → s ≤ maxNumber → length k ≤ maxKey → (c : PairLooked) × (getPair f g k s ≡ given c) × TellsPair f g k s (c .says)
+  pair-tells : Sound f → Sound g → s ≤ maxNumber → length k ≤ maxKey → (c : PairLooked) × (getPair f g k s ≡ given c) × TellsPair f g k s (c .says) × (c .looks ≤ (count f + levels) + (count g + levels))
   unfolding getPair
   pair-tells x y low short =
-      let (a, ea, ta) = get-tells f x k s low short in
-      let (b, eb, tb) = get-tells g y k s low short in
-      let (c, ec, tc) = go (a .says) (b .says) (a .looks) (b .looks) ta tb in
-      (c, rw (header-complete f (x .header), header-complete g (y .header), ea, eb) ec, tc)
+      let (a, ea, ta, la) = get-tells f x k s low short in
+      let (b, eb, tb, lb) = get-tells g y k s low short in
+      let (c, ec, tc, lc) = go (a .says) (b .says) (a .looks) (b .looks) ta tb la lb in
+      (c, rw (header-complete f (x .header), header-complete g (y .header), ea, eb) ec, tc, lc)
     where
-      go : (u v : Looked) (m n : ℕ) → Tells f k s u → Tells g k s v
-          → (c : PairLooked) × (cond (isSaid u) (given (record { says = saysIn First u; looks = 0 + m })) (given (record { says = saysIn Second v; looks = m + n })) ≡ given c)
-          × TellsPair f g k s (c .says)
-      go (one.found i) v m n t w = (_, refl, t)
-      go one.deleted v m n t w = (_, refl, inl t)
-      go one.absent (one.found j) m n t w = (_, refl, (t, w))
-      go one.absent one.deleted m n t w = (_, refl, inr (t, w))
-      go one.absent one.absent m n t w = (_, refl, (t, w))
-
-  -- on any tables
-  pair-looks : (c : PairLooked) → getPair f g k s ≡ given c → c .looks ≤ (count f + levels) + (count g + levels)
-  unfolding getPair
-  pair-looks c e =
-      let (_, a) = demand-given (headerHolds f) badImage _ c e in
-      let (_, b) = demand-given (headerHolds g) badImage _ c a in
-      first (get f k s) refl b
-    where
-      taken : {d : PairLooked} → _≡_ {A = Answer PairLooked} (given d) (given c) → d .looks ≡ c .looks
-      taken h = ap (λ (d : PairLooked). d .looks) (given-same h)
-
-      both : (a : Lookup) → get f k s ≡ given a → (t : Bool) (b : Answer Lookup) → get g k s ≡ b → cond t (toldBy First 0 (given a)) (toldBy Second (a .looks) b) ≡ given c
-          → c .looks ≤ (count f + levels) + (count g + levels)
-      both a x true b y h = omega (arith, taken h, get-given f k s a x .1)
-      both a x false (refused q) y h = absurd (refused-given h)
-      both a x false (given b) y h = omega (arith, taken h, get-given f k s a x .1, get-given g k s b y .1)
-
-      first : (a : Answer Lookup) → get f k s ≡ a → cond (answersOf a) (toldBy First 0 a) (toldBy Second (looksTaken a) (get g k s)) ≡ given c
-          → c .looks ≤ (count f + levels) + (count g + levels)
-      first (refused q) x h = absurd (refused-given h)
-      first (given a) x h = both a x (isSaid (a .says)) (get g k s) refl h
+      go : (u v : Looked) (m n : ℕ) → Tells f k s u → Tells g k s v → m ≤ count f + levels → n ≤ count g + levels
+          → (c : PairLooked) × (cond (isSaid u) (given (record { says = saysIn First u; looks = 0 + m })) (given (record { says = saysIn Second v; looks = m + n })) ≡ given c) × TellsPair f g k s (c .says) × (c .looks ≤ (count f + levels) + (count g + levels))
+      go (one.found i) v m n t w p q = (_, refl, t, omega arith)
+      go one.deleted v m n t w p q = (_, refl, inl t, omega arith)
+      go one.absent (one.found j) m n t w p q = (_, refl, (t, w), omega arith)
+      go one.absent one.deleted m n t w p q = (_, refl, inr (t, w), omega arith)
+      go one.absent one.absent m n t w p q = (_, refl, (t, w), omega arith)
 
   gets-pair : (r : PairLookup) → pairAs r ≡ getPair f g k s → GetsPair f g k s r
-  gets-pair r e = record {
-    exact = e;
-    looks = λ c d. pair-looks c (sym e ∙ d);
-    rule = λ x y low short. let (c, d, t) = pair-tells x y low short in (c, e ∙ d, t);
-  }
+  gets-pair r e = record { exact = e; rule = λ x y low short. let (c, d, t, l) = pair-tells x y low short in (c, e ∙ d, t, l) }
 
   module _ {a : Bool} (ea : a ≡ headerHolds f) where
     pub pair-first-bad : not a ≡ true → GetsPair f g k s (pair.Refused refusal.BadImage)

@@ -89,13 +89,11 @@ TellsPair f g k s (found p) = FoundIn f g k s (p .table) (p .node)
 TellsPair f g k s deleted = Tells f k s one.deleted ⊎ (Tells f k s one.absent × Tells g k s one.deleted)
 TellsPair f g k s absent = Tells f k s one.absent × Tells g k s one.absent
 
--- on sound tables, with a key and a snapshot within their limits: never refused
+-- on sound tables, with a key and a snapshot within their limits: never refused, after at most n + 12 looks for each table asked
 abbrev pub PairRule : List ℕ → List ℕ → List ℕ → ℕ → PairLookup → Type 0
-PairRule f g k s r = (a : PairLooked) × (pairAs r ≡ given a) × TellsPair f g k s (a .says)
+PairRule f g k s r = (a : PairLooked) × (pairAs r ≡ given a) × TellsPair f g k s (a .says) × (a .looks ≤ (count f + levels) + (count g + levels))
 
 -- what the lookup in a pair promises
 pub record GetsPair (f g k : List ℕ) (s : ℕ) (r : PairLookup) : Type 0 where
   pub exact : pairAs r ≡ getPair f g k s
-  -- on any bytes an answer takes at most n + 12 looks for each table asked
-  pub looks : (a : PairLooked) → pairAs r ≡ given a → a .looks ≤ (count f + levels) + (count g + levels)
   pub rule : Sound f → Sound g → s ≤ maxNumber → length k ≤ maxKey → PairRule f g k s r
