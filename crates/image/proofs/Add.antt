@@ -17,10 +17,10 @@ use Rattle.image.specs.Limits.{maxKey, maxValue, maxNumber, maxNodes, le
 use Rattle.image.specs.Words.{Bytes}
 use Rattle.image.specs.Readers.{Read, got}
 use Rattle.image.specs.Entries.{Legal, encode}
-use Rattle.image.specs.Nodes.{count, free, slot, sizeOf, entryOf, linksAt, linkPlace, linkOf}
+use Rattle.image.specs.Nodes.{count, free, slot, entryOf, linksAt, linkPlace, linkOf}
 use Rattle.image.specs.Sound.{Sound, Header, headerHolds}
 use Rattle.image.specs.Search.{toStop, turnBy, Found, hit, ends, searched}
-use Rattle.image.specs.Refusals.{badImage, badKind, badNumber, longKey, longValue, badHeight, noRoom, duplicate, damaged, refused, given, reading}
+use Rattle.image.specs.Refusals.{badImage, badKind, badNumber, longKey, longValue, badHeight, noRoom, damaged, refused, given, reading}
 use Rattle.image.specs.Add.{withEntry, Grown, hasRoom, placed, add}
 use Rattle.image.specs.Added.{HasDuplicate, Added, Outcome, held-already, no-room, accepted, HasLink, in-header, in-node, in-slot, in-link, Confined}
 use Rattle.image.proofs.Refusals.{refused-given, demand-given, demand-damaged, reading-given}

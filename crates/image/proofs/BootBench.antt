@@ -14,7 +14,7 @@ use Rattle.rule.proofs.Lists.{both-true, all-nil, all-cons}
 use Rattle.image.specs.Words.{Bytes, word, putWord, putWords}
 use Rattle.image.specs.Entries.{encode, lenAt, keyedAt, restAt}
 use Rattle.image.specs.Nodes.{leadAt, heightOf, entryOf, linkOf}
-use Rattle.image.specs.Sound.{headerHolds, Sound, held}
+use Rattle.image.specs.Sound.{headerHolds, lowest, Sound, held}
 use Rattle.image.specs.Search.{find, look}
 use Rattle.image.specs.Refusals.{noRoom, duplicate, damaged, noNode, refused, given}
 use Rattle.image.specs.Fresh.{freshImage}
@@ -85,6 +85,11 @@ self-link = refl
 pub table-held : held imageT ≡ put c 4 v ∷ put a 1 x ∷ put b 2 y ∷ gone a 3 ∷ put c 0 w ∷ []
 unfolding compareKeys compareEntries headerHolds add get presence entryMove partsOn find look word putWord putWords linkOf heightOf entryOf nodeWritten written lenAt keyedAt restAt encode leadAt
 table-held = refl
+
+-- and its lowest chain meets them in order: a@3-, a@1=x, b@2=y, c@4=v, c@0=w
+pub table-lowest : lowest imageT ≡ 4 ∷ 2 ∷ 3 ∷ 1 ∷ 5 ∷ []
+unfolding compareKeys compareEntries headerHolds add lowest find look word putWord putWords linkOf nodeWritten written lenAt keyedAt restAt encode leadAt
+table-lowest = refl
 
 -- lookups of a at 2, at 3 and at 0; of an entry that is held; a duplicate whatever its type
 pub table-lookups : (get imageT a 2 ≡ given (record { says = found 2; looks = 13 })) × (get imageT a 3 ≡ given (record { says = deleted; looks = 12 })) × (get imageT a 0 ≡ given (record { says = absent; looks = 13 }))

@@ -14,7 +14,7 @@ use Rattle.rule.proofs.Lists.{all-left, all-append, all-cons}
 use Rattle.image.specs.Limits.{levels, maxNodes, headerSize}
 use Rattle.image.specs.Words.{word}
 use Rattle.image.specs.Entries.{Legal, encode}
-use Rattle.image.specs.Nodes.{count, free, slot, sizeOf, NodeIs, heightOf, entryOf, linkPlace, linkOf}
+use Rattle.image.specs.Nodes.{count, free, slot, NodeIs, heightOf, entryOf, linkPlace, linkOf}
 use Rattle.image.specs.Chains.{tall}
 use Rattle.image.specs.Sound.{lowest, Sound, Header, placeOf, sizeAt, held, heldUpTo}
 use Rattle.image.specs.Add.{withEntry}

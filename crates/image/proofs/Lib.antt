@@ -1,5 +1,6 @@
 pub mod Words
 pub mod Readers
+pub mod Lengths
 pub mod Entries
 pub mod Nodes
 pub mod Chains

@@ -91,16 +91,17 @@ module _ (xs : List ℕ) (s : Sound xs) where
       go true p true q h = (n, h, eqb-true ((entryOf xs (suc i)) .kind) valueKind q)
       go true p false q h = let z = eqb-false ((entryOf xs (suc i)) .kind) valueKind q in (entryOf xs (suc i), h, omega (arith, kind-is (suc i) n))
 
-  -- the lookup: never refused for damage, and from the highest number up to the snapshot
-  pub get-tells : (k : List ℕ) (t : ℕ) → t ≤ maxNumber → length k ≤ maxKey → (a : Lookup) × (get xs k t ≡ given a) × Tells xs k t (a .says)
+  -- the lookup: never refused for damage, at most n + 12 looks, and from the highest number up to the snapshot
+  pub get-tells : (k : List ℕ) (t : ℕ) → t ≤ maxNumber → length k ≤ maxKey → (a : Lookup) × (get xs k t ≡ given a) × Tells xs k t (a .says) × (a .looks ≤ count xs + levels)
   unfolding get
   get-tells k t low short = go (search-sound xs s toStop k t) (lookup-right xs s toStop stop-less k t)
     where
-      go : (q : Searched xs s toStop k t) → newest k t (held xs) ≡ entryIf xs k (standing (q .found)) → (a : Lookup) × (get xs k t ≡ given a) × Tells xs k t (a .says)
+      go : (q : Searched xs s toStop k t) → newest k t (held xs) ≡ entryIf xs k (standing (q .found)) → (a : Lookup) × (get xs k t ≡ given a) × Tells xs k t (a .says) × (a .looks ≤ count xs + levels)
       go q f = let (a, g, m) = said k t (standing (q .found)) f (stands-on k t q) in (
         record { says = a; looks = looksOf (q .found) },
         rw (header-complete xs (s .header), le-leb t maxNumber low, le-leb (length k) maxKey short, q .search, g),
         m,
+        searched-looks xs toStop k t (q .found) (q .search),
       )
 
   -- presence: never refused for damage, and yes exactly if that entry is held

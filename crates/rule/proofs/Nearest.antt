@@ -1,6 +1,6 @@
 -- The key of a list that comes next behind a cut, and what it says of the key that a move ends on.
 -- An order is given by its comparison, so that the same laws serve upward and downward.
-use Prim.Native.Nat.{ℕ, suc, _+_, _<_, _≤_}
+use Prim.Native.Nat.{ℕ, suc, _<_, _≤_}
 use native.Mathlib.Omega.{arith}
 use mathlib.Core.Path.{_≡_, refl, sym, ap, _∙_}
 use mathlib.Core.Logic.{_⊎_, inl, inr}

@@ -1,5 +1,5 @@
 -- The ways out of a lookup and of a question for presence.
-use Prim.Native.Nat.{ℕ, zero, suc, _+_, _-_, _%_, _<_, _≤_}
+use Prim.Native.Nat.{ℕ, zero, suc, _+_, _%_, _<_, _≤_}
 use native.Mathlib.Omega.{arith}
 use mathlib.Core.Path.{_≡_, refl, sym, ap, _∙_}
 use mathlib.Core.List.{List}
@@ -112,7 +112,7 @@ pub gets : (xs k : List ℕ) (s : ℕ) (r : LookupAnswer) → lookupAs r ≡ get
 gets xs k s r e = record {
   exact = e;
   looks = λ a f. (get-given xs k s a (sym e ∙ f)) .1;
-  rule = λ sound low short. let (a, f, t) = get-tells xs sound k s low short in (a, e ∙ f, t);
+  rule = λ sound low short. let (a, f, t, _) = get-tells xs sound k s low short in (a, e ∙ f, t);
 }
 
 -- where a search ended, by the spot that the code was told
