@@ -134,7 +134,8 @@ module _ (f g : List ℕ) (s : ℕ) (c : Cut) (p : Place) (at : Cursor) {n : ℕ
 -- ---- the moves
 
 -- what is behind the cut of a move lies onward
-lands-in : (v : Move) (f g : List ℕ) (s : ℕ) (d : Cut) (k : List ℕ) (c : Cursor) → ((l : List ℕ) → admits d k l ≡ true → Ahead v (startKey f g c) l) → (a : MovedIs) → MovedIn f g s d k c a → LandsIn v f g s c a
+lands-in : (v : Move) (f g : List ℕ) (s : ℕ) (d : Cut) (k : List ℕ) (c : Cursor) → ((l : List ℕ) → admits d k l ≡ true → Ahead v (startKey f g c) l) → (a : MovedIs) → MovedIn f g s d k c a
+    → LandsIn v f g s c a
 lands-in v f g s d k c h a m = ⊎-elim (λ w. inl (w .0, ends (a .cursor) (w .1))) inr m
   where
     ends : (e : Cursor) → AtMost (LandsOn f g s d k) e → AtMost (Lands v f g s c) e

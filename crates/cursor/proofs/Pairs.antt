@@ -79,7 +79,8 @@ pair-searched f g k s a e =
     looks-of : {c : PairLooked} → _≡_ {A = Answer PairLooked} (given c) (given a) → a .looks ≡ c .looks
     looks-of e = let z : _ ≡ _ = e in cc
 
-    by : (b : Lookup) → get f k s ≡ given b → (d : Answer Lookup) → get g k s ≡ d → (t : Bool) → isSaid (b .says) ≡ t → cond t (toldBy First 0 (given b)) (toldBy Second (b .looks) d) ≡ given a → PairLooks f g k s (a .looks)
+    by : (b : Lookup) → get f k s ≡ given b → (d : Answer Lookup) → get g k s ≡ d → (t : Bool) → isSaid (b .says) ≡ t
+        → cond t (toldBy First 0 (given b)) (toldBy Second (b .looks) d) ≡ given a → PairLooks f g k s (a .looks)
     by b i d j true h e = let z : a .looks ≡ b .looks = omega (arith, looks-of e) in inl (rw i h, rw z (get-searched f k s b i))
     by b i (refused o) j false h e = absurd (refused-given e)
     by b i (given d) j false h e = inr (rw i h, b .looks, d .looks, get-searched f k s b i, get-searched g k s d j, looks-of e)
@@ -116,7 +117,9 @@ module _ (f g k : List ℕ) (s : ℕ) where
       (c, rw (header-complete f (x .header), header-complete g (y .header), ea, eb) ec, tc)
     where
       go : (u v : Looked) (m n : ℕ) → Tells f k s u → Tells g k s v
-          → (c : PairLooked) × (cond (isSaid u) (given (record { says = saysIn First u; looks = 0 + m })) (given (record { says = saysIn Second v; looks = m + n })) ≡ given c) × TellsPair f g k s (c .says)
+          → (c : PairLooked)
+          × (cond (isSaid u) (given (record { says = saysIn First u; looks = 0 + m })) (given (record { says = saysIn Second v; looks = m + n })) ≡ given c)
+          × TellsPair f g k s (c .says)
       go (one.found i) v m n t w = (_, refl, t)
       go one.deleted v m n t w = (_, refl, inl t)
       go one.absent (one.found j) m n t w = (_, refl, (t, w))

@@ -63,7 +63,10 @@ module _ (v : Move) (f g : List ℕ) (s : ℕ) (ahead : Entry → Entry → Bool
 
   from-place : (q : Place) (k : ℕ) → Scan v f g s (On q) k → k ≤ left ahead never trans (entryAt f g q) (all f g)
   from-place q zero n = omega arith
-  from-place q (suc k) (went p m n) = let a = from-place p k n in let b = left-less ahead never trans (entryAt f g q) (entryAt f g p) (goes q p (landed v f g s (On q) p m)) (all f g) (member (On q) p m) in omega arith
+  from-place q (suc k) (went p m n) =
+      let a = from-place p k n in
+      let b = left-less ahead never trans (entryAt f g q) (entryAt f g p) (goes q p (landed v f g s (On q) p m)) (all f g) (member (On q) p m) in
+      omega arith
 
   from-anywhere : (c : Cursor) (k : ℕ) → Scan v f g s c k → k ≤ length (all f g)
   from-anywhere (On q) k n = let a = from-place q k n in let b = left-most ahead never trans (entryAt f g q) (all f g) in omega arith

@@ -116,4 +116,5 @@ pub record Walked (f g : List ℕ) (s : ℕ) (c : Cut) (t : List ℕ) (r : Found
 -- keys were met in the first table, and in the second
 pub data Passes (f g : List ℕ) (s : ℕ) (c : Cut) (t : List ℕ) : Reached → ℕ → ℕ → Type 0 where
   start : Passes f g s c t Start 0 0
-  more : {at : Reached} {i j : ℕ} (m : Meeting) → Passes f g s c t at i j → Stepped f g s (cutFrom c at) (keyFrom f g t at) (step.Pass m) → Passes f g s c t (Past (m .place)) (tickOf (m .first) + i) (tickOf (m .second) + j)
+  more : {at : Reached} {i j : ℕ} (m : Meeting) → Passes f g s c t at i j → Stepped f g s (cutFrom c at) (keyFrom f g t at) (step.Pass m)
+      → Passes f g s c t (Past (m .place)) (tickOf (m .first) + i) (tickOf (m .second) + j)
