@@ -53,7 +53,7 @@ landed v f g s c p m = go (asked f g s c (keyGiven v)) refl
   where
     go : (a : Answer {0} Unit) → asked f g s c (keyGiven v) ≡ a → Lands v f g s c p
     go (refused q) e = absurd (no-refusal q (ap (λ (a : MovedIs). a .refusal) (m .refused q e)))
-    go (given tt) e = ⊎-elim (λ w. w .1) (λ w. absurd (no-refusal damaged (ap (λ (a : MovedIs). a .refusal) w))) (m .lands e)
+    go (given tt) e = ⊎-elim (λ w. w .1) (λ w. absurd (no-refusal damaged (ap (λ (a : MovedIs). a .refusal) (w .0)))) (m .lands e)
 
 -- one argument for both ways: a move from a place ends ahead of it
 module _ (v : Move) (f g : List ℕ) (s : ℕ) (ahead : Entry → Entry → Bool) (never : (e : Entry) → ahead e e ≡ false) (trans : (e f g : Entry) → ahead e f ≡ true → ahead f g ≡ true → ahead e g ≡ true)
