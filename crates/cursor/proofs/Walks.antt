@@ -171,12 +171,13 @@ module _ (f g : List ℕ) (s : ℕ) (c : Cut) (t : List ℕ) (at : Reached) (m :
 -- ---- between turns
 
 -- the key that is looked for is the first with a row behind the cut where the walk has come to; on any bytes, what is behind that cut is behind the one
--- where it began, and the counts last: no more entries of a table lie there than may still be met
+-- where it began, the counts last (no more entries of a table lie there than may still be met), and it came there by passing keys
 pub record Kept (f g : List ℕ) (s : ℕ) (c : Cut) (t : List ℕ) (at : Reached) (left : Left) : Type 0 where
   pub same : Sound f → Sound g → bestOf f g s c t ≡ bestOf f g s (cutFrom c at) (keyFrom f g t at)
   pub first : headerHolds f ≡ true → remaining (admits (cutFrom c at) (keyFrom f g t at)) (held f) ≤ left .first
   pub second : headerHolds g ≡ true → remaining (admits (cutFrom c at) (keyFrom f g t at)) (held g) ≤ left .second
   pub behind : (k : List ℕ) → admits (cutFrom c at) (keyFrom f g t at) k ≡ true → admits c t k ≡ true
+  pub came : (i : ℕ) × (j : ℕ) × Passes f g s c t at i j
 
 -- the walk goes on, with less left
 pub record Going (f g : List ℕ) (s : ℕ) (c : Cut) (t : List ℕ) (at : Reached) (left rest : Left) : Type 0 where
@@ -193,6 +194,7 @@ module _ (f g : List ℕ) (s : ℕ) (c : Cut) (t : List ℕ) where
     first = λ h. counted f a h;
     second = λ h. counted g b h;
     behind = λ k h. h;
+    came = (0, 0, start);
   }
 
   module _ {at : Reached} {left : Left} (k : Kept f g s c t at left) where
@@ -200,7 +202,7 @@ module _ (f g : List ℕ) (s : ℕ) (c : Cut) (t : List ℕ) where
     ends a b e r h = subst (λ (n : Maybe (List ℕ)). Ends f g s n r) (sym e) h
 
     pub kept-damaged : Stepped f g s (cutFrom c at) (keyFrom f g t at) step.Damaged → Walked f g s c t found.Damaged
-    kept-damaged r = record { rule = λ x y. absurd (r .rule x y); lands = (at, r .lands) }
+    kept-damaged r = record { rule = λ x y. absurd (r .rule x y); lands = let (i, j, p) = k .came in (at, i, j, p, r .lands) }
 
     pub kept-end : Stepped f g s (cutFrom c at) (keyFrom f g t at) step.End → Walked f g s c t found.Nothing
     kept-end r = record {
@@ -241,6 +243,7 @@ module _ (f g : List ℕ) (s : ℕ) (c : Cut) (t : List ℕ) where
           first = λ z. omega (arith, p, k .first z, less-of f g s c t at m r f (m .first) (r .lands .in-first));
           second = λ z. omega (arith, q, k .second z, less-of f g s c t at m r g (m .second) (r .lands .in-second));
           behind = λ l z. k .behind l (behind-key c (cutFrom c at) (keyFrom f g t at) (keyAt f g (m .place)) (past-from c at) (admitted f g s c t at m r) l z);
+          came = let (i, j, o) = k .came in (tickOf (m .first) + i, tickOf (m .second) + j, more m o r);
         };
         fewer = ⊎-elim (λ z. let n : tickOf (m .first) ≡ 1 = rw z in omega (arith, p, q, n)) (λ z. let n : tickOf (m .second) ≡ 1 = rw z in omega (arith, p, q, n)) (r .lands .somewhere);
       }
