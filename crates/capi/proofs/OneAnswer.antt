@@ -47,5 +47,6 @@ entry-move-one xs m at = once (plainEntryMoved at) (table.move-one xs m (entryCu
 pub pair-one : (f g k : List ℕ) (t : ℕ) {r s : BavoPairLookup} → Plainly plainPairLookup (λ a. GetsPair f g k t a) r → Plainly plainPairLookup (λ a. GetsPair f g k t a) s → r ≡ s
 pair-one f g k t = once plainPairLookup (cursor.pair-one f g k t)
 
-pub move-one : (v : Move) (f g : List ℕ) (t : ℕ) (at : BavoCursor) → Decided v f g t (cursorOf at) → {r s : BavoMoved} → Plainly (plainMoved at) (λ a. Moves v f g t (cursorOf at) a) r → Plainly (plainMoved at) (λ a. Moves v f g t (cursorOf at) a) s → r ≡ s
+pub move-one : (v : Move) (f g : List ℕ) (t : ℕ) (at : BavoCursor) → Decided v f g t (cursorOf at) → {r s : BavoMoved} → Plainly (plainMoved at) (λ a. Moves v f g t (cursorOf at) a) r
+    → Plainly (plainMoved at) (λ a. Moves v f g t (cursorOf at) a) s → r ≡ s
 move-one v f g t at d = once (plainMoved at) (cursor.move-one v f g t (cursorOf at) d)

@@ -92,7 +92,8 @@ same-lookup s es fs xs ys a b agree k r q g h = go (leb s maxNumber) refl (leb (
 
     go : (m : Bool) → leb s maxNumber ≡ m → (n : Bool) → leb (length k) maxKey ≡ n → learnt xs r ≡ learnt ys q
     go true m true n = let i = leb-true s maxNumber m in let j = leb-true (length k) maxKey n in learnt-rule xs k s r x g i j ∙ ap learntOf alike ∙ sym (learnt-rule ys k s q y h i j)
-    go true m false n = let j = leb-false (length k) maxKey n in learnt-refused xs k s r longKey g (get-key xs k s (holds xs x) (sym m) refl j) ∙ sym (learnt-refused ys k s q longKey h (get-key ys k s (holds ys y) (sym m) refl j))
+    go true m false n = let j = leb-false (length k) maxKey n in
+        learnt-refused xs k s r longKey g (get-key xs k s (holds xs x) (sym m) refl j) ∙ sym (learnt-refused ys k s q longKey h (get-key ys k s (holds ys y) (sym m) refl j))
     go false m n o = learnt-refused xs k s r badNumber g (get-number xs k s (holds xs x) (sym m) refl) ∙ sym (learnt-refused ys k s q badNumber h (get-number ys k s (holds ys y) (sym m) refl))
 
 -- ---- what changes no row: a string of moves over tables that were filled, and then left as they are
@@ -132,8 +133,10 @@ module _ (s : ℕ) (t u : Tables) {t′ u′ : Tables} {c d : Cursor} {ms ns : L
 
 -- ---- and entries accepted between two moves, if they are numbered above s: the move after them shows what it would have shown without them
 
-pub between-hidden : (s : ℕ) {t u : Tables} {c : Cursor} {ms : List Moment} {es fs : List Entry} → Run s t c ms → Single s (entriesOf t) → Additions (t .first) es (u .first) → Later s es → Additions (t .second) fs (u .second) → Later s fs
-    → (v : Move) (r q : Moved) (w z : Maybe Row) → Moves v (t .first) (t .second) s c r → Shows t (movedAs r .cursor) w → Moves v (u .first) (u .second) s c q → Shows u (movedAs q .cursor) z → (movedAs r .refusal ≡ movedAs q .refusal) × (w ≡ z)
+pub between-hidden : (s : ℕ) {t u : Tables} {c : Cursor} {ms : List Moment} {es fs : List Entry}
+    → Run s t c ms → Single s (entriesOf t) → Additions (t .first) es (u .first) → Later s es → Additions (t .second) fs (u .second) → Later s fs
+    → (v : Move) (r q : Moved) (w z : Maybe Row) → Moves v (t .first) (t .second) s c r → Shows t (movedAs r .cursor) w → Moves v (u .first) (u .second) s c q
+    → Shows u (movedAs q .cursor) z → (movedAs r .refusal ≡ movedAs q .refusal) × (w ≡ z)
 between-hidden s {t} {u} {c} {ms} {es} {fs} run single a i b j v r q w z x p y o =
     let h = run-whole run in
     let g = same-move t c u c (record { left = h; right = whole-grown t u c h a b; same = sym (entry-grown t u c h a b) }) s (record {

@@ -175,7 +175,8 @@ in-step s (begun a b) (moved u v r w n e f x y) l = absurd l
 in-step s (moved u v r w m e f x y) (begun a b) l = absurd l
 in-step s (moved {t = t} {c = c} {ms = ms} t′ v r w m a b x y) (moved {t = u} {c = d} {ms = ns} u′ v′ q z n e f i j) (same, alike, rest) = after (in-step s m n rest)
   where
-    after : Together t c u d × (seenIn ms ≡ seenIn ns) → Together t′ (movedAs r .cursor) u′ (movedAs q .cursor) × ((record { refusal = movedAs r .refusal; row = w } ∷ seenIn ms) ≡ (record { refusal = movedAs q .refusal; row = z } ∷ seenIn ns))
+    after : Together t c u d × (seenIn ms ≡ seenIn ns)
+        → Together t′ (movedAs r .cursor) u′ (movedAs q .cursor) × ((record { refusal = movedAs r .refusal; row = w } ∷ seenIn ms) ≡ (record { refusal = movedAs q .refusal; row = z } ∷ seenIn ns))
     after (k, h) =
         let g = same-move t′ c u′ d (record {
           left = whole-grown t t′ c (k .left) a b;

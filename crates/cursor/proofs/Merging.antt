@@ -98,7 +98,8 @@ module _ (f g : List ℕ) (c : Cut) (t : List ℕ) where
   join : (a b : Maybe (List ℕ)) → Least (cmpOf c) (admits c t) (held f) a → Least (cmpOf c) (admits c t) (held g) b → Least (cmpOf c) (admits c t) (all f g) (sooner (cmpOf c) a b)
   join a b = least-append (cmpOf c) (way c) (admits c t) (held f) (held g) a b
 
-  nearer-over : (i j : ℕ) → NearestOver (held f) f g c t (nearest.At (metAt First i)) → NearestOver (held g) f g c t (nearest.At (metAt Second j)) → NearestIs f g c t (nearest.At (nearerOf (keyAt f g) c (metAt First i) (metAt Second j)))
+  nearer-over : (i j : ℕ) → NearestOver (held f) f g c t (nearest.At (metAt First i)) → NearestOver (held g) f g c t (nearest.At (metAt Second j))
+      → NearestIs f g c t (nearest.At (nearerOf (keyAt f g) c (metAt First i) (metAt Second j)))
   nearer-over i j a b = go (isLess (cmpOf c l k)) refl (isLess (cmpOf c k l)) refl (λ u v. join (some k) (some l) (a .rule u v) (b .rule u v))
     where
       k : List ℕ
@@ -212,7 +213,10 @@ module _ (f g : List ℕ) (k : List ℕ) (s : ℕ) where
       n = numberAt f g (w .place)
 
       both : (x : Sound f) (y : Sound g) → newest k s (all f g) ≡ some (cond (ltb m n) (entryAt f g (w .place)) (entryAt f g (v .place)))
-      both x y = together (some (entryAt f g (v .place))) (some (entryAt f g (w .place))) (a .rule x y .0) (b .rule x y .0) ∙ rw (number-at-told f g x y (v .place) (a .lands .reads .inside), number-at-told f g x y (w .place) (b .lands .reads .inside))
+      both x y =
+          let i = number-at-told f g x y (v .place) (a .lands .reads .inside) in
+          let j = number-at-told f g x y (w .place) (b .lands .reads .inside) in
+          together (some (entryAt f g (v .place))) (some (entryAt f g (w .place))) (a .rule x y .0) (b .rule x y .0) ∙ rw (i, j)
 
       go : (t : Bool) → ltb m n ≡ t → NewestIs f g k s (cond t (newer.At w) (newer.At v))
       go true e = record {

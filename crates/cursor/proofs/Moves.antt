@@ -32,8 +32,8 @@ use Rattle.table.proofs.Laws.{in-table, first-behind, seek-behind, next-behind,
 use Rattle.cursor.proofs.Headers.{headers-hold, headers-refused}
 use Rattle.cursor.proofs.Merging.{sound-of, key-told}
 use Rattle.cursor.specs.Places.{imageOf, all, entryAt, keyAt, CursorIn, HeadersHold, inside, refusalAt}
-use Rattle.cursor.specs.Walks.{bestOf, LandsOn, Ends, FoundIn, Walked}
-use Rattle.cursor.specs.Moves.{asked, testAs, keyGiven, startKey, MovedIs, movedAs, movedOf, LeadsTo, Ahead, Lands, AtMost, LandsIn, MovedIn, Went, WentFrom, Moves}
+use Rattle.cursor.specs.Walks.{bestOf, LandsOn, WalkDamaged, Ends, FoundIn, Walked}
+use Rattle.cursor.specs.Moves.{asked, testAs, keyGiven, startKey, MovedIs, movedAs, movedOf, LeadsTo, Ahead, Lands, NowhereOr, EndsOn, DamagedFrom, MeetsDamage, LandsIn, Went, WentFrom, Moves}
 use Rattle.cursor.specs.declared.places.Side.{Side}
 use Rattle.cursor.specs.declared.places.Side.the-variants.{First, Second}
 use Rattle.cursor.specs.declared.places.Place.{Place}
@@ -115,31 +115,47 @@ went f g s c t at a k e = rw e (record { rule = λ x y. same (bestOf f g s c t) 
     same (some l) found.Nothing h = absurd h
     same (some l) found.Damaged h = absurd h
 
-    within : (a : Found) → FoundIn f g s c t a → MovedIn f g s c t at (movedAs (movedOf a at))
+    within : (a : Found) → FoundIn f g s c t a → EndsOn (LandsOn f g s c t) (WalkDamaged f g s c t) at (movedAs (movedOf a at))
     within (found.At p) h = inl (refl, h)
     within found.Nothing h = inl (refl, tt)
-    within found.Damaged h = inr refl
+    within found.Damaged h = inr (refl, h)
+
+-- what holds of a place and of the damage goes over to what follows from it
+ends-on : {P Q : Place → Type 0} {D E : Type 0} (c : Cursor) (a : MovedIs) → ((p : Place) → P p → Q p) → (D → E) → EndsOn P D c a → EndsOn Q E c a
+ends-on {P} {Q} c a f g m = ⊎-elim (λ w. inl (w .0, at (a .cursor) (w .1))) (λ w. inr (w .0, g (w .1))) m
+  where
+    at : (d : Cursor) → NowhereOr P d → NowhereOr Q d
+    at Nowhere h = tt
+    at (On p) h = f p h
 
 module _ (f g : List ℕ) (s : ℕ) (c : Cut) (p : Place) (at : Cursor) {n : ℕ} (e : n ≡ refusalAt f g p) where
   -- on sound tables the node at a cursor is read
   pub from-hurt : (n ≡ 0 → ⊥) → WentFrom f g s c p at (Refused refusal.Damaged at)
-  from-hurt h = record { rule = λ x y i. absurd (h (e ∙ view-accepted (imageOf (p .table) f g) (sound-of f g x y (p .table)) (p .node) i)); lands = inr refl }
+  from-hurt h = record {
+    rule = λ x y i. absurd (h (e ∙ view-accepted (imageOf (p .table) f g) (sound-of f g x y (p .table)) (p .node) i));
+    lands = inr (refl, inl (λ z. h (e ∙ z)));
+  }
 
   pub from-went : n ≡ 0 → {k : List ℕ} → k ≡ keyAt f g p → (r : Moved) → Went f g s c k at r → WentFrom f g s c p at r
-  from-went z d r w = record {
-    rule = λ x y i. subst (λ (k : List ℕ). LeadsTo f g s (bestOf f g s c k) (movedAs r)) (d ∙ key-told f g x y p i) (w .rule x y);
-    lands = subst (λ (k : List ℕ). MovedIn f g s c k at (movedAs r)) (d ∙ key-read (imageOf (p .table) f g) (p .node) (sym e ∙ z)) (w .lands);
-  }
+  from-went z d r w =
+      let i = key-read (imageOf (p .table) f g) (p .node) (sym e ∙ z) in
+      let l = subst (λ (k : List ℕ). EndsOn (LandsOn f g s c k) (WalkDamaged f g s c k) at (movedAs r)) (d ∙ i) (w .lands) in
+      record {
+        rule = λ x y i. subst (λ (k : List ℕ). LeadsTo f g s (bestOf f g s c k) (movedAs r)) (d ∙ key-told f g x y p i) (w .rule x y);
+        lands = ends-on at (movedAs r) (λ o h. h) inr l;
+      }
 
 -- ---- the moves
 
 -- what is behind the cut of a move lies onward
-lands-in : (v : Move) (f g : List ℕ) (s : ℕ) (d : Cut) (k : List ℕ) (c : Cursor) → ((l : List ℕ) → admits d k l ≡ true → Ahead v (startKey f g c) l) → (a : MovedIs) → MovedIn f g s d k c a → LandsIn v f g s c a
-lands-in v f g s d k c h a m = ⊎-elim (λ w. inl (w .0, ends (a .cursor) (w .1))) inr m
-  where
-    ends : (e : Cursor) → AtMost (LandsOn f g s d k) e → AtMost (Lands v f g s c) e
-    ends Nowhere m = tt
-    ends (On p) m = record { inside = m .reads .inside; readable = m .reads .readable; value-is = m .value-is; number-most = m .number-most; ahead = h (entryAt f g p .key) (m .admitted) }
+onward : (v : Move) (f g : List ℕ) (s : ℕ) (d : Cut) (k : List ℕ) (c : Cursor) → ((l : List ℕ) → admits d k l ≡ true → Ahead v (startKey f g c) l) → (p : Place) → LandsOn f g s d k p → Lands v f g s c p
+onward v f g s d k c h p m = record {
+  inside = m .reads .inside;
+  readable = m .reads .readable;
+  value-is = m .value-is;
+  number-most = m .number-most;
+  ahead = h (entryAt f g p .key) (m .admitted);
+}
 
 module _ (v : Move) (f g : List ℕ) (s : ℕ) (c : Cursor) {t : MoveTest} (e : testAs t ≡ asked f g s c (keyGiven v)) where
   pub move-refused : {q : Refusal} → t ≡ Failed q → Moves v f g s c (Refused q c)
@@ -161,28 +177,43 @@ module _ (v : Move) (f g : List ℕ) (s : ℕ) (c : Cursor) {t : MoveTest} (e : 
       lands = λ d. b;
     }
 
-    pub move-went : (r : Moved) (d : Cut) (k : List ℕ) → target v s (startKey f g c) (all f g) ≡ bestOf f g s d k → ((l : List ℕ) → admits d k l ≡ true → Ahead v (startKey f g c) l) → Went f g s d k c r → Moves v f g s c r
-    move-went r d k q a w = leads r (λ x y _. subst (λ (n : Maybe (List ℕ)). LeadsTo f g s n (movedAs r)) (sym q) (w .rule x y)) (lands-in v f g s d k c a (movedAs r) (w .lands))
+    pub move-went : (r : Moved) (d : Cut) (k : List ℕ) → target v s (startKey f g c) (all f g) ≡ bestOf f g s d k → ((l : List ℕ) → admits d k l ≡ true → Ahead v (startKey f g c) l)
+        → (WalkDamaged f g s d k → MeetsDamage v f g s c) → Went f g s d k c r → Moves v f g s c r
+    move-went r d k q a m w =
+        leads r (λ x y _. subst (λ (n : Maybe (List ℕ)). LeadsTo f g s n (movedAs r)) (sym q) (w .rule x y)) (ends-on c (movedAs r) (onward v f g s d k c a) m (w .lands))
 
-    pub move-from : (r : Moved) (d : Cut) {p : Place} → c ≡ On p → target v s (some (entryAt f g p .key)) (all f g) ≡ bestOf f g s d (entryAt f g p .key) → ((l : List ℕ) → admits d (entryAt f g p .key) l ≡ true → Ahead v (some (entryAt f g p .key)) l) → WentFrom f g s d p (On p) r → Moves v f g s c r
-    move-from r d {p} z q a w = leads r (λ x y i. subst (λ (n : Maybe (List ℕ)). LeadsTo f g s n (movedAs r)) (sym q ∙ sym (ap (λ (o : Cursor). target v s (startKey f g o) (all f g)) z)) (w .rule x y (rw z at i))) (subst (λ (o : Cursor). LandsIn v f g s o (movedAs r)) (sym z) (lands-in v f g s d (entryAt f g p .key) (On p) a (movedAs r) (w .lands)))
+    pub move-from : (r : Moved) (d : Cut) {p : Place} → c ≡ On p → target v s (some (entryAt f g p .key)) (all f g) ≡ bestOf f g s d (entryAt f g p .key)
+        → ((l : List ℕ) → admits d (entryAt f g p .key) l ≡ true → Ahead v (some (entryAt f g p .key)) l)
+        → (DamagedFrom f g s d p → MeetsDamage v f g s (On p)) → WentFrom f g s d p (On p) r → Moves v f g s c r
+    move-from r d {p} z q a m w =
+        let k = entryAt f g p .key in
+        let e = sym q ∙ sym (ap (λ (o : Cursor). target v s (startKey f g o) (all f g)) z) in
+        let l = ends-on (On p) (movedAs r) (onward v f g s d k (On p) a) m (w .lands) in
+        leads r (λ x y i. subst (λ (n : Maybe (List ℕ)). LeadsTo f g s n (movedAs r)) e (w .rule x y (rw z at i))) (subst (λ (o : Cursor). LandsIn v f g s o (movedAs r)) (sym z) l)
 
 module _ (f g : List ℕ) (s : ℕ) (c : Cursor) {t : MoveTest} (h : t ≡ Passed) where
-  pub move-first : testAs t ≡ asked f g s c [] → {k : List ℕ} {r : Moved} → Went f g s cut.all k c r → Moves rule.first f g s c r
-  move-first e {k} {r} w = move-went rule.first f g s c e h r cut.all k (first-behind s (all f g) k (startKey f g c)) (λ l _. tt) w
+  pub move-first : testAs t ≡ asked f g s c [] → {r : Moved} → Went f g s cut.all [] c r → Moves rule.first f g s c r
+  move-first e {r} w = move-went rule.first f g s c e h r cut.all [] (first-behind s (all f g) [] (startKey f g c)) (λ l _. tt) (λ m. m) w
 
   pub move-seek : {k : List ℕ} → testAs t ≡ asked f g s c k → {r : Moved} → Went f g s cut.from k c r → Moves (rule.seek k) f g s c r
-  move-seek {k} e {r} w = move-went (rule.seek k) f g s c e h r cut.from k (seek-behind s (all f g) k (startKey f g c)) (λ l a. not-true (isLess (compareKeys l k)) a) w
+  move-seek {k} e {r} w = move-went (rule.seek k) f g s c e h r cut.from k (seek-behind s (all f g) k (startKey f g c)) (λ l a. not-true (isLess (compareKeys l k)) a) (λ m. m) w
 
   module _ (e : testAs t ≡ asked f g s c []) where
-    pub move-next-nowhere : c ≡ Nowhere → {k : List ℕ} {r : Moved} → Went f g s cut.all k c r → Moves rule.next f g s c r
-    move-next-nowhere z {k} {r} w = move-went rule.next f g s c e h r cut.all k (ap (λ (o : Cursor). target rule.next s (startKey f g o) (all f g)) z ∙ next-nowhere s (all f g) k) (λ l _. subst (λ (o : Cursor). Ahead rule.next (startKey f g o) l) (sym z) tt) w
+    pub move-next-nowhere : c ≡ Nowhere → {r : Moved} → Went f g s cut.all [] c r → Moves rule.next f g s c r
+    move-next-nowhere z {r} w =
+        let q = ap (λ (o : Cursor). target rule.next s (startKey f g o) (all f g)) z ∙ next-nowhere s (all f g) [] in
+        let a : (l : List ℕ) → admits cut.all [] l ≡ true → Ahead rule.next (startKey f g c) l = λ l _. rw z tt in
+        move-went rule.next f g s c e h r cut.all [] q a (λ m. rw z m) w
 
     pub move-next : {p : Place} → c ≡ On p → {r : Moved} → WentFrom f g s cut.above p (On p) r → Moves rule.next f g s c r
-    move-next {p} z {r} w = move-from rule.next f g s c e h r cut.above z (next-behind s (all f g) (entryAt f g p .key)) (λ l a. less-true (compareKeys (entryAt f g p .key) l) a) w
+    move-next {p} z {r} w =
+        let k = entryAt f g p .key in
+        move-from rule.next f g s c e h r cut.above z (next-behind s (all f g) k) (λ l a. less-true (compareKeys k l) a) (λ m. m) w
 
     pub move-prev : {p : Place} → c ≡ On p → {r : Moved} → WentFrom f g s cut.below p (On p) r → Moves rule.previous f g s c r
-    move-prev {p} z {r} w = move-from rule.previous f g s c e h r cut.below z (previous-behind s (all f g) (entryAt f g p .key)) (λ l a. less-true (compareKeys l (entryAt f g p .key)) a) w
+    move-prev {p} z {r} w =
+        let k = entryAt f g p .key in
+        move-from rule.previous f g s c e h r cut.below z (previous-behind s (all f g) k) (λ l a. less-true (compareKeys l k) a) (λ m. m) w
 
     -- from nowhere there is no previous
     pub move-prev-nowhere : c ≡ Nowhere → Moves rule.previous f g s c (To Nowhere)

@@ -41,7 +41,8 @@ in-lies f g side (At o n) l = l
 in-lies f g side (RefusedOn q) l = tt
 
 -- the answer of the place's table
-pub spans-at : (v : View) (f g : List ℕ) (p : Place) {xs : List ℕ} → xs ≡ imageOf (p .table) f g → {s : SpanOn} → Spans xs (v xs (on (p .node))) s → {r : RowSpan} → r ≡ spanIn (p .table) s → SpansAt v f g p r
+pub spans-at : (v : View) (f g : List ℕ) (p : Place) {xs : List ℕ} → xs ≡ imageOf (p .table) f g → {s : SpanOn} → Spans xs (v xs (on (p .node))) s → {r : RowSpan} → r ≡ spanIn (p .table) s
+    → SpansAt v f g p r
 spans-at v f g p {xs} e {s} is {r} d = let h : Spans (imageOf (p .table) f g) (v (imageOf (p .table) f g) (on (p .node))) s = rw e at is in record {
   exact = rw d (in-as (p .table) s ∙ ap (partIn (p .table)) (h .exact));
   lies = rw d (in-lies f g (p .table) s (h .lies));

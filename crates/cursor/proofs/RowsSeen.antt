@@ -42,7 +42,8 @@ led t x y s (some k) a (p, e, g) w v =
     record { refusal = rw e; key = rw (e, i); row = z ∙ rw (i, j) }
 
 -- additions leave the key that a move starts from
-start-grown : (t u : Tables) (c : Cursor) {es fs : List Entry} → Whole t c → Additions (t .first) es (u .first) → Additions (t .second) fs (u .second) → startKey (u .first) (u .second) c ≡ startKey (t .first) (t .second) c
+start-grown : (t u : Tables) (c : Cursor) {es fs : List Entry} → Whole t c → Additions (t .first) es (u .first) → Additions (t .second) fs (u .second)
+    → startKey (u .first) (u .second) c ≡ startKey (t .first) (t .second) c
 start-grown t u Nowhere h a b = refl
 start-grown t u (On p) h a b = ap (λ (e : Entry). some (e .key)) (entry-stays (t .first) (t .second) (u .first) (u .second) (additions-grow (h .first) a) (additions-grow (h .second) b) p (h .within))
 
@@ -53,7 +54,8 @@ not-refused t c h s k m n = asked-whole t c h s k ∙ rw (le-leb s maxNumber m, 
 -- ---- a run, with any additions between its moves
 
 -- the cursor is on the key that the rule says, and each move shows the row that the rule says
-pub run-rows : {s : ℕ} {t : Tables} {c : Cursor} {ms : List Moment} → Run s t c ms → InLimits s (movesIn ms) → (startKey (t .first) (t .second) c ≡ keyAfter s ms) × (seenIn ms ≡ accepted (rowsBy s ms))
+pub run-rows : {s : ℕ} {t : Tables} {c : Cursor} {ms : List Moment} → Run s t c ms → InLimits s (movesIn ms)
+    → (startKey (t .first) (t .second) c ≡ keyAfter s ms) × (seenIn ms ≡ accepted (rowsBy s ms))
 run-rows (begun a b) l = (refl, refl)
 run-rows {s = s} (moved {t = t} {c = c} {ms = ms} u v r w m a b x y) l =
     let (k, rows) = run-rows m (record { number = l .number; keys = λ v i. l .keys v (List·Memᴰ·tail i) }) in
@@ -98,5 +100,6 @@ still-rows s t (m ∷ ms) (e, x) =
 
 -- over tables that nothing is added to between the moves, with arguments within their limits: what is seen, from the first move to the last, is the rows that
 -- `rowsAfter` gives for the moves in that order, from nowhere, and no refusal
-pub rows-seen : {s : ℕ} (t : Tables) {u : Tables} {c : Cursor} {ms : List Moment} → Run s u c ms → Still t ms → InLimits s (movesIn ms) → inOrder (seenIn ms) ≡ accepted (rowsAfter (inOrder (movesIn ms)) s none (entriesOf t))
+pub rows-seen : {s : ℕ} (t : Tables) {u : Tables} {c : Cursor} {ms : List Moment} → Run s u c ms → Still t ms → InLimits s (movesIn ms)
+    → inOrder (seenIn ms) ≡ accepted (rowsAfter (inOrder (movesIn ms)) s none (entriesOf t))
 rows-seen {s = s} t {ms = ms} r x l = ap inOrder (run-rows r l .1) ∙ accepted-order (rowsBy s ms) ∙ ap accepted (still-rows s t ms x .1)

@@ -38,7 +38,7 @@ use Rattle.cursor.specs.declared.db_iter.Moved.the-variants.{To}
 use Rattle.cursor.proofs.Lockstep.{asked-whole}
 use Rattle.cursor.proofs.Pairs.{get-searched, pair-searched}
 use Rattle.cursor.proofs.RowsSeen.{run-rows}
-use Rattle.cursor.proofs.Demand3Case.{f0, f1, g0, g1, left, held-left, held-early, adding-a, add-a, whole-begun, left-a, moment, left-begun, goes}
+use Rattle.cursor.proofs.Demand3Case.{f0, f1, g0, g1, left, held-left, held-early, adding-a, add-a, whole-begun, Stands, left-a, moment, left-begun, goes}
 
 -- nowhere is no place
 nowhere-else : {p : Place} → movedTo Nowhere ≡ movedTo (On p) → ⊥
@@ -66,10 +66,13 @@ early = record { first = f1; second = g0 }
 -- the first move, over these, shows a=x; what it has seen then is `first` alone
 pub replays-first : Run 2 early (On (place First 1)) (moment early first a x ∷ [])
 unfolding compareKeys
-replays-first = goes left-begun add-a growth.none first refl (put a 1 x ∷ []) held-early none refl (place First 1) (put a 1 x) (record { inside = left-a .inside; entry = left-a .entry }) refl refl refl tt (all-nil _)
+replays-first =
+    let there : Stands early (place First 1) (put a 1 x) = record { inside = left-a .inside; entry = left-a .entry } in
+    goes left-begun add-a growth.none first refl (put a 1 x ∷ []) held-early none refl (place First 1) (put a 1 x) there refl refl refl tt (all-nil _)
 
 -- then b=y, numbered up to the snapshot, is added, and next is made: no run goes on so with a next that shows no row, whatever its first move has shown
-pub replays : {t : Tables} {c : Cursor} {n : ℕ} {seen : Seen} → Run 2 t c (record { tables = left; move = next; seen = record { refusal = n; row = none } } ∷ record { tables = early; move = first; seen = seen } ∷ []) → ⊥
+pub replays : {t : Tables} {c : Cursor} {n : ℕ} {seen : Seen}
+    → Run 2 t c (record { tables = left; move = next; seen = record { refusal = n; row = none } } ∷ record { tables = early; move = first; seen = seen } ∷ []) → ⊥
 unfolding compareKeys
 replays r = true≢false (sym (ap lastShows (rw (held-left, held-early) at (run-rows r within .1))))
   where

@@ -53,7 +53,7 @@ landed v f g s c p m = go (asked f g s c (keyGiven v)) refl
   where
     go : (a : Answer {0} Unit) → asked f g s c (keyGiven v) ≡ a → Lands v f g s c p
     go (refused q) e = absurd (no-refusal q (ap (λ (a : MovedIs). a .refusal) (m .refused q e)))
-    go (given tt) e = ⊎-elim (λ w. w .1) (λ w. absurd (no-refusal damaged (ap (λ (a : MovedIs). a .refusal) w))) (m .lands e)
+    go (given tt) e = ⊎-elim (λ w. w .1) (λ w. absurd (no-refusal damaged (ap (λ (a : MovedIs). a .refusal) (w .0)))) (m .lands e)
 
 -- one argument for both ways: a move from a place ends ahead of it
 module _ (v : Move) (f g : List ℕ) (s : ℕ) (ahead : Entry → Entry → Bool) (never : (e : Entry) → ahead e e ≡ false) (trans : (e f g : Entry) → ahead e f ≡ true → ahead f g ≡ true → ahead e g ≡ true)
@@ -63,7 +63,10 @@ module _ (v : Move) (f g : List ℕ) (s : ℕ) (ahead : Entry → Entry → Bool
 
   from-place : (q : Place) (k : ℕ) → Scan v f g s (On q) k → k ≤ left ahead never trans (entryAt f g q) (all f g)
   from-place q zero n = omega arith
-  from-place q (suc k) (went p m n) = let a = from-place p k n in let b = left-less ahead never trans (entryAt f g q) (entryAt f g p) (goes q p (landed v f g s (On q) p m)) (all f g) (member (On q) p m) in omega arith
+  from-place q (suc k) (went p m n) =
+      let a = from-place p k n in
+      let b = left-less ahead never trans (entryAt f g q) (entryAt f g p) (goes q p (landed v f g s (On q) p m)) (all f g) (member (On q) p m) in
+      omega arith
 
   from-anywhere : (c : Cursor) (k : ℕ) → Scan v f g s c k → k ≤ length (all f g)
   from-anywhere (On q) k n = let a = from-place q k n in let b = left-most ahead never trans (entryAt f g q) (all f g) in omega arith

@@ -49,10 +49,14 @@ module _ (f g : List ℕ) (x : Sound f) (y : Sound g) (s : ℕ) where
       go : (u : Side) (i : ℕ) (v : Side) (j : ℕ) → Gives f g s k (place u i) → Gives f g s k (place v j) → place u i ≡ place v j
       go First i First j a b = ap (place First) (same f x i j (a .inside) (b .inside) (cc (a .newest-is, b .newest-is)))
       go Second i Second j a b = ap (place Second) (same g y i j (a .inside) (b .inside) (cc (a .newest-is, b .newest-is)))
-      go First i Second j a b = let e : entryOf f i ≡ entryOf g j = cc (a .newest-is, b .newest-is) in
-          absurd (omega (arith, b .first (entryOf f i) (node-held f i (a .inside)) (true-fits k s (entryOf f i) (known k s (all f g) (some (entryOf f i)) (a .newest-is) .1)), ap (λ (d : Entry). d .number) e))
-      go Second i First j a b = let e : entryOf f j ≡ entryOf g i = cc (a .newest-is, b .newest-is) in
-          absurd (omega (arith, a .first (entryOf f j) (node-held f j (b .inside)) (true-fits k s (entryOf f j) (known k s (all f g) (some (entryOf f j)) (b .newest-is) .1)), ap (λ (d : Entry). d .number) e))
+      go First i Second j a b =
+          let e : entryOf f i ≡ entryOf g j = cc (a .newest-is, b .newest-is) in
+          let t = true-fits k s (entryOf f i) (known k s (all f g) (some (entryOf f i)) (a .newest-is) .1) in
+          absurd (omega (arith, b .first (entryOf f i) (node-held f i (a .inside)) t, ap (λ (d : Entry). d .number) e))
+      go Second i First j a b =
+          let e : entryOf f j ≡ entryOf g i = cc (a .newest-is, b .newest-is) in
+          let t = true-fits k s (entryOf f j) (known k s (all f g) (some (entryOf f j)) (b .newest-is) .1) in
+          absurd (omega (arith, a .first (entryOf f j) (node-held f j (b .inside)) t, ap (λ (d : Entry). d .number) e))
 
   leads-one : (t : Maybe (List ℕ)) (a b : MovedIs) → LeadsTo f g s t a → LeadsTo f g s t b → a ≡ b
   leads-one none a b m n = m ∙ sym n

@@ -65,8 +65,14 @@ module _ (f g : List ℕ) (s : ℕ) (c : Cut) (t : List ℕ) where
     module _ {v : Version} (r : NewestIs f g k s (newer.At v)) where
       pub step-done : v .value ≡ true → Stepped f g s c t (step.Done (v .place))
       step-done h = record {
-        rule = λ x y. let o = r .over .rule x y in (k, rw e (n .rule x y), record { inside = r .over .lands .reads .inside; newest-is = o .0; value-is = rw h at (o .1); first = r .first x y });
-        lands = let o = r .over .lands in record { reads = o .reads; admitted = rw (o .key-is, e, key-read-at f g (m .place) (n .lands .reads)) (n .lands .admitted); value-is = rw h at (o .kind-is); number-most = o .number-most };
+        rule = λ x y. let o = r .over .rule x y in
+            (k, rw e (n .rule x y), record { inside = r .over .lands .reads .inside; newest-is = o .0; value-is = rw h at (o .1); first = r .first x y });
+        lands = let o = r .over .lands in record {
+          reads = o .reads;
+          admitted = rw (o .key-is, e, key-read-at f g (m .place) (n .lands .reads)) (n .lands .admitted);
+          value-is = rw h at (o .kind-is);
+          number-most = o .number-most;
+        };
       }
 
       pub step-deleted : v .value ≡ false → Stepped f g s c t (step.Pass m)
@@ -74,7 +80,8 @@ module _ (f g : List ℕ) (s : ℕ) (c : Cut) (t : List ℕ) where
           ap (λ (a : Maybe Entry). isSome (shown a)) (o .0) ∙ rw (ne-eqb (entryAt f g (v .place) .kind) valueKind (λ u. omega (arith, d, u))))
 
 -- the turn past the key of a place
-pub turn-past : (f g : List ℕ) (s : ℕ) (c : Cut) (t : List ℕ) (p : Place) {d : Cut} {k : List ℕ} {r : _} → d ≡ pastOf c → k ≡ keyAt f g p → Stepped f g s d k r → Stepped f g s (cutFrom c (Past p)) (keyFrom f g t (Past p)) r
+pub turn-past : (f g : List ℕ) (s : ℕ) (c : Cut) (t : List ℕ) (p : Place) {d : Cut} {k : List ℕ} {r : _}
+    → d ≡ pastOf c → k ≡ keyAt f g p → Stepped f g s d k r → Stepped f g s (cutFrom c (Past p)) (keyFrom f g t (Past p)) r
 turn-past f g s c t p e h q = rw (← e, ← h) q
 
 -- ---- what it counts
@@ -94,7 +101,8 @@ module _ (l : Left) (m : Meeting) {a b : ℕ} (ea : a ≡ tickOf (m .first)) (eb
 over-means : (l : Left) (m : Meeting) → spentOf l m ≡ Over → (l .first < tickOf (m .first)) ⊎ (l .second < tickOf (m .second))
 over-means l m e = go (ltb (l .first) (tickOf (m .first))) refl (ltb (l .second) (tickOf (m .second))) refl e
   where
-    go : (p : Bool) → ltb (l .first) (tickOf (m .first)) ≡ p → (q : Bool) → ltb (l .second) (tickOf (m .second)) ≡ q → cond p Over (cond q Over (Rest (record { first = l .first - tickOf (m .first); second = l .second - tickOf (m .second) }))) ≡ Over
+    go : (p : Bool) → ltb (l .first) (tickOf (m .first)) ≡ p → (q : Bool) → ltb (l .second) (tickOf (m .second)) ≡ q
+        → cond p Over (cond q Over (Rest (record { first = l .first - tickOf (m .first); second = l .second - tickOf (m .second) }))) ≡ Over
         → (l .first < tickOf (m .first)) ⊎ (l .second < tickOf (m .second))
     go true p q d e = inl (ltb-true (l .first) (tickOf (m .first)) p)
     go false p true d e = inr (ltb-true (l .second) (tickOf (m .second)) d)
@@ -103,7 +111,8 @@ over-means l m e = go (ltb (l .first) (tickOf (m .first))) refl (ltb (l .second)
 rest-means : (l : Left) (m : Meeting) (r : Left) → spentOf l m ≡ Rest r → (tickOf (m .first) + r .first ≡ l .first) × (tickOf (m .second) + r .second ≡ l .second)
 rest-means l m r e = go (ltb (l .first) (tickOf (m .first))) refl (ltb (l .second) (tickOf (m .second))) refl e
   where
-    go : (p : Bool) → ltb (l .first) (tickOf (m .first)) ≡ p → (q : Bool) → ltb (l .second) (tickOf (m .second)) ≡ q → cond p Over (cond q Over (Rest (record { first = l .first - tickOf (m .first); second = l .second - tickOf (m .second) }))) ≡ Rest r
+    go : (p : Bool) → ltb (l .first) (tickOf (m .first)) ≡ p → (q : Bool) → ltb (l .second) (tickOf (m .second)) ≡ q
+        → cond p Over (cond q Over (Rest (record { first = l .first - tickOf (m .first); second = l .second - tickOf (m .second) }))) ≡ Rest r
         → (tickOf (m .first) + r .first ≡ l .first) × (tickOf (m .second) + r .second ≡ l .second)
     go true p q d e = let z : _≡_ {A = ℕ} 0 1 = cc in absurd (omega arith)
     go false p true d e = let z : _≡_ {A = ℕ} 0 1 = cc in absurd (omega arith)
@@ -162,12 +171,13 @@ module _ (f g : List ℕ) (s : ℕ) (c : Cut) (t : List ℕ) (at : Reached) (m :
 -- ---- between turns
 
 -- the key that is looked for is the first with a row behind the cut where the walk has come to; on any bytes, what is behind that cut is behind the one
--- where it began, and the counts last: no more entries of a table lie there than may still be met
+-- where it began, the counts last (no more entries of a table lie there than may still be met), and it came there by passing keys
 pub record Kept (f g : List ℕ) (s : ℕ) (c : Cut) (t : List ℕ) (at : Reached) (left : Left) : Type 0 where
   pub same : Sound f → Sound g → bestOf f g s c t ≡ bestOf f g s (cutFrom c at) (keyFrom f g t at)
   pub first : headerHolds f ≡ true → remaining (admits (cutFrom c at) (keyFrom f g t at)) (held f) ≤ left .first
   pub second : headerHolds g ≡ true → remaining (admits (cutFrom c at) (keyFrom f g t at)) (held g) ≤ left .second
   pub behind : (k : List ℕ) → admits (cutFrom c at) (keyFrom f g t at) k ≡ true → admits c t k ≡ true
+  pub came : (i : ℕ) × (j : ℕ) × Passes f g s c t at i j
 
 -- the walk goes on, with less left
 pub record Going (f g : List ℕ) (s : ℕ) (c : Cut) (t : List ℕ) (at : Reached) (left rest : Left) : Type 0 where
@@ -184,6 +194,7 @@ module _ (f g : List ℕ) (s : ℕ) (c : Cut) (t : List ℕ) where
     first = λ h. counted f a h;
     second = λ h. counted g b h;
     behind = λ k h. h;
+    came = (0, 0, start);
   }
 
   module _ {at : Reached} {left : Left} (k : Kept f g s c t at left) where
@@ -191,23 +202,30 @@ module _ (f g : List ℕ) (s : ℕ) (c : Cut) (t : List ℕ) where
     ends a b e r h = subst (λ (n : Maybe (List ℕ)). Ends f g s n r) (sym e) h
 
     pub kept-damaged : Stepped f g s (cutFrom c at) (keyFrom f g t at) step.Damaged → Walked f g s c t found.Damaged
-    kept-damaged r = record { rule = λ x y. absurd (r .rule x y); lands = (at, r .lands) }
+    kept-damaged r = record { rule = λ x y. absurd (r .rule x y); lands = let (i, j, p) = k .came in (at, i, j, p, r .lands) }
 
     pub kept-end : Stepped f g s (cutFrom c at) (keyFrom f g t at) step.End → Walked f g s c t found.Nothing
     kept-end r = record {
-      rule = λ x y. ends (bestOf f g s c t) none (k .same x y ∙ best-end (cmpOf (cutFrom c at)) (way (cutFrom c at)) s (all f g) (admits (cutFrom c at) (keyFrom f g t at)) (r .rule x y)) found.Nothing tt;
+      rule = λ x y.
+          let d = cutFrom c at in
+          let e = best-end (cmpOf d) (way d) s (all f g) (admits d (keyFrom f g t at)) (r .rule x y) in
+          ends (bestOf f g s c t) none (k .same x y ∙ e) found.Nothing tt;
       lands = tt;
     }
 
     pub kept-done : {p : Place} → Stepped f g s (cutFrom c at) (keyFrom f g t at) (step.Done p) → Walked f g s c t (found.At p)
-    kept-done {p} r = record { rule = λ x y. go (cutFrom c at) (keyFrom f g t at) (r .rule x y) (k .same x y); lands = let o = r .lands in record { reads = o .reads; admitted = k .behind (entryAt f g p .key) (o .admitted); value-is = o .value-is; number-most = o .number-most } }
+    kept-done {p} r = record {
+      rule = λ x y. go (cutFrom c at) (keyFrom f g t at) (r .rule x y) (k .same x y);
+      lands = let o = r .lands in record { reads = o .reads; admitted = k .behind (entryAt f g p .key) (o .admitted); value-is = o .value-is; number-most = o .number-most };
+    }
       where
         go : (d : Cut) (u : List ℕ) → StepRule f g s d u (step.Done p) → bestOf f g s c t ≡ bestOf f g s d u → Ends f g s (bestOf f g s c t) (found.At p)
         go d u (l, h, v) e = ends (bestOf f g s c t) (some l) (e ∙ best-done (cmpOf d) (way d) s (all f g) (admits d u) l h (rw (v .newest-is, v .value-is))) (found.At p) v
 
     module _ {m : Meeting} (r : Stepped f g s (cutFrom c at) (keyFrom f g t at) (step.Pass m)) where
       -- what may still be met is not used up by a key that is met
-      lasts : (xs : List ℕ) (b : Bool) (n : ℕ) → (b ≡ true → HasNode xs (entryAt f g (m .place) .key)) → (headerHolds xs ≡ true → remaining (admits (cutFrom c at) (keyFrom f g t at)) (held xs) ≤ n) → n < tickOf b → ⊥
+      lasts : (xs : List ℕ) (b : Bool) (n : ℕ) → (b ≡ true → HasNode xs (entryAt f g (m .place) .key))
+          → (headerHolds xs ≡ true → remaining (admits (cutFrom c at) (keyFrom f g t at)) (held xs) ≤ n) → n < tickOf b → ⊥
       lasts xs false n h few z = omega arith
       lasts xs true n h few z = let o = h refl in omega (arith, z, few (header-read xs (o .node) (o .readable)), less-of f g s c t at m r xs true h)
 
@@ -225,6 +243,7 @@ module _ (f g : List ℕ) (s : ℕ) (c : Cut) (t : List ℕ) where
           first = λ z. omega (arith, p, k .first z, less-of f g s c t at m r f (m .first) (r .lands .in-first));
           second = λ z. omega (arith, q, k .second z, less-of f g s c t at m r g (m .second) (r .lands .in-second));
           behind = λ l z. k .behind l (behind-key c (cutFrom c at) (keyFrom f g t at) (keyAt f g (m .place)) (past-from c at) (admitted f g s c t at m r) l z);
+          came = let (i, j, o) = k .came in (tickOf (m .first) + i, tickOf (m .second) + j, more m o r);
         };
         fewer = ⊎-elim (λ z. let n : tickOf (m .first) ≡ 1 = rw z in omega (arith, p, q, n)) (λ z. let n : tickOf (m .second) ≡ 1 = rw z in omega (arith, p, q, n)) (r .lands .somewhere);
       }

@@ -1,6 +1,6 @@
 -- What the moves of the visible cursor promise: `refused`, the refusal of the arguments, `rule`, where they lead on sound tables,
 -- and `lands`, where they end on any bytes: on a place that can be read whole, with a value up to the snapshot, onward of where the move
--- started; or nowhere; or damage with the cursor as it was handed. So no scan goes round.
+-- started; or nowhere; or damage, which the move met, with the cursor as it was handed. So no scan goes round.
 use Prim.Native.Nat.{ℕ, _≤_}
 use mathlib.Core.Path.{_≡_}
 use mathlib.Core.Logic.{_⊎_}
@@ -15,12 +15,13 @@ use Rattle.rule.specs.Moves.{Move, first, seek, next, previous, target}
 use Rattle.image.specs.Limits.{maxKey, maxNumber}
 use Rattle.image.specs.Sound.{Sound, headerHolds}
 use Rattle.image.specs.Cuts.{Cut}
+use Rattle.image.specs.Cuts as cut
 use Rattle.image.specs.Refusals as is
 use Rattle.image.specs.Refusals.{Answer, refused, given, demand, badImage, noNode, badNumber, longKey, damaged, numberOf}
 use Rattle.table.specs.Refusals.{refusalIs}
 use Rattle.table.specs.declared.refusals.Refusal.the-variants as refusal
 use Rattle.cursor.specs.Places.{all, entryAt, refusalAt, PlaceIn, inside}
-use Rattle.cursor.specs.Walks.{Gives, bestOf, LandsOn}
+use Rattle.cursor.specs.Walks.{Gives, WalkDamaged, bestOf, LandsOn}
 use Rattle.cursor.specs.declared.places.Place.{Place}
 use Rattle.cursor.specs.declared.places.Cursor.{Cursor}
 use Rattle.cursor.specs.declared.places.Cursor.the-variants.{Nowhere, On}
@@ -111,33 +112,42 @@ pub record Lands (v : Move) (f g : List ℕ) (s : ℕ) (c : Cursor) (p : Place) 
   pub ahead : Ahead v (startKey f g c) (entryAt f g p .key)
 
 -- nowhere, or on a place that has P
-abbrev pub AtMost : (Place → Type 0) → Cursor → Type 0
-AtMost P Nowhere = Unit
-AtMost P (On p) = P p
+abbrev pub NowhereOr : (Place → Type 0) → Cursor → Type 0
+NowhereOr P Nowhere = Unit
+NowhereOr P (On p) = P p
 
--- nowhere, or on a place that has P, or damage with the cursor that was handed
-abbrev pub EndsOn : (Place → Type 0) → Cursor → MovedIs → Type 0
-EndsOn P c a = ((a .refusal ≡ 0) × AtMost P (a .cursor)) ⊎ RefusedWith damaged c a
+-- nowhere, or on a place that has P; or damage, which was met, with the cursor that was handed
+abbrev pub EndsOn : (Place → Type 0) → Type 0 → Cursor → MovedIs → Type 0
+EndsOn P met c a = ((a .refusal ≡ 0) × NowhereOr P (a .cursor)) ⊎ (RefusedWith damaged c a × met)
+
+-- the node at a place cannot be read, or its walk from there behind a cut meets damage
+abbrev pub DamagedFrom : List ℕ → List ℕ → ℕ → Cut → Place → Type 0
+DamagedFrom f g s c p = (refusalAt f g p ≡ 0 → ⊥) ⊎ WalkDamaged f g s c (entryAt f g p .key)
+
+-- a move meets damage: it cannot read the node that it starts from, or its walk meets damage
+abbrev pub MeetsDamage : Move → List ℕ → List ℕ → ℕ → Cursor → Type 0
+MeetsDamage first f g s c = WalkDamaged f g s cut.all []
+MeetsDamage (seek t) f g s c = WalkDamaged f g s cut.from t
+MeetsDamage next f g s Nowhere = WalkDamaged f g s cut.all []
+MeetsDamage next f g s (On p) = DamagedFrom f g s cut.above p
+MeetsDamage previous f g s Nowhere = ⊥
+MeetsDamage previous f g s (On p) = DamagedFrom f g s cut.below p
 
 -- where a move may end
 abbrev pub LandsIn : Move → List ℕ → List ℕ → ℕ → Cursor → MovedIs → Type 0
-LandsIn v f g s c = EndsOn (Lands v f g s c) c
-
--- where a walk behind a cut may end
-abbrev pub MovedIn : List ℕ → List ℕ → ℕ → Cut → List ℕ → Cursor → MovedIs → Type 0
-MovedIn f g s c t at = EndsOn (LandsOn f g s c t) at
+LandsIn v f g s c = EndsOn (Lands v f g s c) (MeetsDamage v f g s c) c
 
 -- ---- the promises
 
 -- what a walk behind a cut comes to
 pub record Went (f g : List ℕ) (s : ℕ) (c : Cut) (t : List ℕ) (at : Cursor) (r : Moved) : Type 0 where
   pub rule : Sound f → Sound g → LeadsTo f g s (bestOf f g s c t) (movedAs r)
-  pub lands : MovedIn f g s c t at (movedAs r)
+  pub lands : EndsOn (LandsOn f g s c t) (WalkDamaged f g s c t) at (movedAs r)
 
 -- and behind a cut at the key of a place
 pub record WentFrom (f g : List ℕ) (s : ℕ) (c : Cut) (p : Place) (at : Cursor) (r : Moved) : Type 0 where
   pub rule : Sound f → Sound g → PlaceIn f g p → LeadsTo f g s (bestOf f g s c (entryAt f g p .key)) (movedAs r)
-  pub lands : MovedIn f g s c (entryAt f g p .key) at (movedAs r)
+  pub lands : EndsOn (LandsOn f g s c (entryAt f g p .key)) (DamagedFrom f g s c p) at (movedAs r)
 
 -- what a move promises
 pub record Moves (v : Move) (f g : List ℕ) (s : ℕ) (c : Cursor) (r : Moved) : Type 0 where

@@ -51,12 +51,16 @@ StepRule f g s c t (step.Pass m) = Least (cmpOf c) (admits c t) (all f g) (some 
 StepRule f g s c t step.End = Least (cmpOf c) (admits c t) (all f g) none
 StepRule f g s c t step.Damaged = ⊥
 
--- what it names on any bytes; damage was met in a question to one of the tables: for the next key, or for the newest entry of the key that is next
+-- damage is met in a turn: in the question to one of the tables for the next key, or for the newest entry of the key that is next
+abbrev pub TurnDamaged : List ℕ → List ℕ → ℕ → Cut → List ℕ → Type 0
+TurnDamaged f g s c t = NearDamaged f g c t ⊎ ((m : Meeting) × MeetingIn f g c t m × NewestDamaged f g (entryAt f g (m .place) .key) s)
+
+-- what it names on any bytes
 abbrev pub StepIn : List ℕ → List ℕ → ℕ → Cut → List ℕ → Step → Type 0
 StepIn f g s c t (step.Done p) = LandsOn f g s c t p
 StepIn f g s c t (step.Pass m) = MeetingIn f g c t m
 StepIn f g s c t step.End = Unit
-StepIn f g s c t step.Damaged = NearDamaged f g c t ⊎ ((m : Meeting) × MeetingIn f g c t m × NewestDamaged f g (entryAt f g (m .place) .key) s)
+StepIn f g s c t step.Damaged = TurnDamaged f g s c t
 
 -- what a turn promises
 pub record Stepped (f g : List ℕ) (s : ℕ) (c : Cut) (t : List ℕ) (r : Step) : Type 0 where
@@ -84,6 +88,15 @@ tickOf false = 0
 abbrev pub spentOf : Left → Meeting → Spent
 spentOf l m = cond (ltb (l .first) (tickOf (m .first))) Over (cond (ltb (l .second) (tickOf (m .second))) Over (Rest (record { first = l .first - tickOf (m .first); second = l .second - tickOf (m .second) })))
 
+-- ---- the keys that it passes
+
+-- a string of turns that pass a key, each any answer that the promise of a turn allows from where the one before left off, on any bytes; with how many of the
+-- keys were met in the first table, and in the second
+pub data Passes (f g : List ℕ) (s : ℕ) (c : Cut) (t : List ℕ) : Reached → ℕ → ℕ → Type 0 where
+  start : Passes f g s c t Start 0 0
+  more : {at : Reached} {i j : ℕ} (m : Meeting) → Passes f g s c t at i j → Stepped f g s (cutFrom c at) (keyFrom f g t at) (step.Pass m)
+      → Passes f g s c t (Past (m .place)) (tickOf (m .first) + i) (tickOf (m .second) + j)
+
 -- ---- where it ends
 
 -- of the keys behind the cut that have a row, the one that comes first
@@ -99,21 +112,17 @@ Ends f g s (some k) (found.At p) = Gives f g s k p
 Ends f g s (some k) found.Nothing = ⊥
 Ends f g s (some k) found.Damaged = ⊥
 
+-- damage is met in a turn from where a walk has come to, past the keys that it passed
+abbrev pub WalkDamaged : List ℕ → List ℕ → ℕ → Cut → List ℕ → Type 0
+WalkDamaged f g s c t = (at : Reached) × (i : ℕ) × (j : ℕ) × Passes f g s c t at i j × TurnDamaged f g s (cutFrom c at) (keyFrom f g t at)
+
 -- where it ends on any bytes; damage was met in some turn, so the count is never what ends a walk
 abbrev pub FoundIn : List ℕ → List ℕ → ℕ → Cut → List ℕ → Found → Type 0
 FoundIn f g s c t (found.At p) = LandsOn f g s c t p
 FoundIn f g s c t found.Nothing = Unit
-FoundIn f g s c t found.Damaged = (at : Reached) × StepIn f g s (cutFrom c at) (keyFrom f g t at) step.Damaged
+FoundIn f g s c t found.Damaged = WalkDamaged f g s c t
 
 -- what a walk promises
 pub record Walked (f g : List ℕ) (s : ℕ) (c : Cut) (t : List ℕ) (r : Found) : Type 0 where
   pub rule : Sound f → Sound g → Ends f g s (bestOf f g s c t) r
   pub lands : FoundIn f g s c t r
-
--- ---- the keys that it passes
-
--- a string of turns that pass a key, each any answer that the promise of a turn allows from where the one before left off, on any bytes; with how many of the
--- keys were met in the first table, and in the second
-pub data Passes (f g : List ℕ) (s : ℕ) (c : Cut) (t : List ℕ) : Reached → ℕ → ℕ → Type 0 where
-  start : Passes f g s c t Start 0 0
-  more : {at : Reached} {i j : ℕ} (m : Meeting) → Passes f g s c t at i j → Stepped f g s (cutFrom c at) (keyFrom f g t at) (step.Pass m) → Passes f g s c t (Past (m .place)) (tickOf (m .first) + i) (tickOf (m .second) + j)

@@ -34,11 +34,15 @@ go-requires c κs = search needs
 
 -- src/db_iter.rt:150:1
 returns : tie.Need-returns
-returns c = let a = c .before .before .before .before .before .before .before .args in move-refused rule.first (a .first .now) (a .second .now) (a .snapshot) (a .at) (c .before .before .before .test-move .ensures) (c .before .q .given .1)
+returns c =
+    let a = c .before .before .before .before .before .before .before .args in
+    move-refused rule.first (a .first .now) (a .second .now) (a .snapshot) (a .at) (c .before .before .before .test-move .ensures) (c .before .q .given .1)
 
 -- src/db_iter.rt:150:1
 returns-2 : tie.Need-returns-2
-returns-2 c = let a = c .before .before .before .before .before .before .before .before .args in move-first (a .first .now) (a .second .now) (a .snapshot) (a .at) (c .before .before .enum-told .given .1) (c .before .before .before .before .test-move .ensures) (c .go .ensures)
+returns-2 c =
+    let a = c .before .before .before .before .before .before .before .before .args in
+    move-first (a .first .now) (a .second .now) (a .snapshot) (a .at) (c .before .before .enum-told .given .1) (c .before .before .before .before .test-move .ensures) (c .go .ensures)
 
 pub first-spec : {M : Type 1} → statement M
 first-spec =

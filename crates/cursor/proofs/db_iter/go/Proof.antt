@@ -18,7 +18,9 @@ end-on-requires c κs = search needs
 
 -- src/db_iter.rt:105:1
 returns : tie.Need-returns
-returns c = let a = c .before .before .before .before .before .args in went (a .first .now) (a .second .now) (a .snapshot) (cutOf (a .cut)) (a .key .now) (a .at) _ (c .before .walk .ensures) (c .end-on .ensures)
+returns c =
+    let a = c .before .before .before .before .before .args in
+    went (a .first .now) (a .second .now) (a .snapshot) (cutOf (a .cut)) (a .key .now) (a .at) _ (c .before .walk .ensures) (c .end-on .ensures)
 
 pub go-spec : {M : Type 1} → statement M
 go-spec = tie.close (tie.spec walk-requires end-on-requires returns)

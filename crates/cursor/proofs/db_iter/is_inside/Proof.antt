@@ -37,12 +37,17 @@ enum-told-3 c = search needs
 
 -- src/db_iter.rt:32:1
 returns-2 : tie.Need-returns-2
-returns-2 c = let a = c .before .before .before .before .before .before .before .before .before .args in let t = rw (c .before .before .before .image-of .ensures) at (c .before .before .test-cursor .ensures) in
+returns-2 c =
+    let a = c .before .before .before .before .before .before .before .before .before .args in
+    let t = rw (c .before .before .before .image-of .ensures) at (c .before .before .test-cursor .ensures) in
     inside-passed (a .first .now) (a .second .now) _ (c .before .before .before .before .before .at .given .1) t (c .enum-told2 .given .1)
 
 -- src/db_iter.rt:32:1
 returns-3 : tie.Need-returns-3
-returns-3 c = let d = c .before .before .before .before .before .before .before .before .before in let a = d .args in let t = rw (c .before .before .before .image-of .ensures) at (c .before .before .test-cursor .ensures) in
+returns-3 c =
+    let d = c .before .before .before .before .before .before .before .before .before in
+    let a = d .args in
+    let t = rw (c .before .before .before .image-of .ensures) at (c .before .before .test-cursor .ensures) in
     inside-failed (a .first .now) (a .second .now) _ (c .before .before .before .before .before .at .given .1) t (d .pre) (c .enum-told3 .given .1)
 
 pub is-inside-spec : {M : Type 1} → statement M

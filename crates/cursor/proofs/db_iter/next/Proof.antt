@@ -47,15 +47,23 @@ go-from-requires c κs = search needs
 
 -- src/db_iter.rt:176:1
 returns : tie.Need-returns
-returns c = let a = c .before .before .before .before .before .before .before .args in move-refused rule.next (a .first .now) (a .second .now) (a .snapshot) (a .at) (c .before .before .before .test-move .ensures) (c .before .q .given .1)
+returns c =
+    let a = c .before .before .before .before .before .before .before .args in
+    move-refused rule.next (a .first .now) (a .second .now) (a .snapshot) (a .at) (c .before .before .before .test-move .ensures) (c .before .q .given .1)
 
 -- src/db_iter.rt:176:1
 returns-2 : tie.Need-returns-2
-returns-2 c = let a = c .before .before .before .before .before .before .before .before .before .before .args in move-next-nowhere (a .first .now) (a .second .now) (a .snapshot) (a .at) (c .before .before .before .before .enum-told .given .1) (c .before .before .before .before .before .before .test-move .ensures) (c .before .before .enum-told2 .given .1) (c .go .ensures)
+returns-2 c =
+    let a = c .before .before .before .before .before .before .before .before .before .before .args in
+    move-next-nowhere (a .first .now) (a .second .now) (a .snapshot) (a .at) (c .before .before .before .before .enum-told .given .1)
+    (c .before .before .before .before .before .before .test-move .ensures) (c .before .before .enum-told2 .given .1) (c .go .ensures)
 
 -- src/db_iter.rt:176:1
 returns-3 : tie.Need-returns-3
-returns-3 c = let a = c .before .before .before .before .before .before .before .before .before .before .args in move-next (a .first .now) (a .second .now) (a .snapshot) (a .at) (c .before .before .before .before .enum-told .given .1) (c .before .before .before .before .before .before .test-move .ensures) (c .before .before .at .given .1) (c .go-from .ensures)
+returns-3 c =
+    let a = c .before .before .before .before .before .before .before .before .before .before .args in
+    move-next (a .first .now) (a .second .now) (a .snapshot) (a .at) (c .before .before .before .before .enum-told .given .1)
+    (c .before .before .before .before .before .before .test-move .ensures) (c .before .before .at .given .1) (c .go-from .ensures)
 
 pub next-spec : {M : Type 1} → statement M
 next-spec =

@@ -38,15 +38,22 @@ go-from-requires c κs = search needs
 
 -- src/db_iter.rt:189:1
 returns : tie.Need-returns
-returns c = let a = c .before .before .before .before .before .before .before .args in move-refused rule.previous (a .first .now) (a .second .now) (a .snapshot) (a .at) (c .before .before .before .test-move .ensures) (c .before .q .given .1)
+returns c =
+    let a = c .before .before .before .before .before .before .before .args in
+    move-refused rule.previous (a .first .now) (a .second .now) (a .snapshot) (a .at) (c .before .before .before .test-move .ensures) (c .before .q .given .1)
 
 -- src/db_iter.rt:189:1
 returns-2 : tie.Need-returns-2
-returns-2 c = let a = c .before .before .before .before .before .before .before .before .args in move-prev-nowhere (a .first .now) (a .second .now) (a .snapshot) (a .at) (c .before .before .enum-told .given .1) (c .before .before .before .before .test-move .ensures) (c .enum-told2 .given .1)
+returns-2 c =
+    let a = c .before .before .before .before .before .before .before .before .args in
+    move-prev-nowhere (a .first .now) (a .second .now) (a .snapshot) (a .at) (c .before .before .enum-told .given .1) (c .before .before .before .before .test-move .ensures) (c .enum-told2 .given .1)
 
 -- src/db_iter.rt:189:1
 returns-3 : tie.Need-returns-3
-returns-3 c = let a = c .before .before .before .before .before .before .before .before .before .before .args in move-prev (a .first .now) (a .second .now) (a .snapshot) (a .at) (c .before .before .before .before .enum-told .given .1) (c .before .before .before .before .before .before .test-move .ensures) (c .before .before .at .given .1) (c .go-from .ensures)
+returns-3 c =
+    let a = c .before .before .before .before .before .before .before .before .before .before .args in
+    move-prev (a .first .now) (a .second .now) (a .snapshot) (a .at) (c .before .before .before .before .enum-told .given .1)
+    (c .before .before .before .before .before .before .test-move .ensures) (c .before .before .at .given .1) (c .go-from .ensures)
 
 pub prev-spec : {M : Type 1} → statement M
 prev-spec =

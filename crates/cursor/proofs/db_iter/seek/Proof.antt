@@ -26,11 +26,15 @@ go-requires c κs = search needs
 
 -- src/db_iter.rt:160:1
 returns : tie.Need-returns
-returns c = let a = c .before .before .before .before .before .before .before .args in move-refused (rule.seek (a .key .now)) (a .first .now) (a .second .now) (a .snapshot) (a .at) (c .before .before .before .test-move .ensures) (c .before .q .given .1)
+returns c =
+    let a = c .before .before .before .before .before .before .before .args in
+    move-refused (rule.seek (a .key .now)) (a .first .now) (a .second .now) (a .snapshot) (a .at) (c .before .before .before .test-move .ensures) (c .before .q .given .1)
 
 -- src/db_iter.rt:160:1
 returns-2 : tie.Need-returns-2
-returns-2 c = let a = c .before .before .before .before .before .before .before .args in move-seek (a .first .now) (a .second .now) (a .snapshot) (a .at) (c .before .enum-told .given .1) (c .before .before .before .test-move .ensures) (c .go .ensures)
+returns-2 c =
+    let a = c .before .before .before .before .before .before .before .args in
+    move-seek (a .first .now) (a .second .now) (a .snapshot) (a .at) (c .before .enum-told .given .1) (c .before .before .before .test-move .ensures) (c .go .ensures)
 
 pub seek-spec : {M : Type 1} → statement M
 seek-spec =

@@ -32,8 +32,12 @@ told-by-requires c κs = let a = c .before .before .before .before .before .befo
 
 -- src/merging_iter.rt:241:9
 returns-2 : tie.Need-returns-2
-returns-2 c = let a = c .before .before .before .before .before .before .before .before .before .args in let h = c .before .before .before .before .before .headers-hold .ensures in let k = c .before .before .before .before .if1 .left in
-    pair-first (a .first .now) (a .second .now) (a .key .now) (a .snapshot) h k (c .before .before .before .get .ensures) (c .before .before .answers .ensures) (c .before .if2 .taken) _ (c .told-by .ensures)
+returns-2 c =
+    let a = c .before .before .before .before .before .before .before .before .before .args in
+    let h = c .before .before .before .before .before .headers-hold .ensures in
+    let k = c .before .before .before .before .if1 .left in
+    pair-first (a .first .now) (a .second .now) (a .key .now) (a .snapshot) h k (c .before .before .before .get .ensures) (c .before .before .answers .ensures) (c .before .if2 .taken) _
+    (c .told-by .ensures)
 
 -- src/merging_iter.rt:243:9
 looks-of-requires : tie.Need-looks-of-requires
@@ -45,12 +49,19 @@ get-requires-2 c κs = search needs
 
 -- src/merging_iter.rt:244:5
 told-by-requires-2 : tie.Need-told-by-requires-2
-told-by-requires-2 c κs = let a = c .before .before .before .before .before .before .before .before .before .before .args in few-both (a .first .now) (a .key .now) (a .snapshot) (c .before .before .before .before .get .ensures) (a .second .now) (c .get2 .ensures) (c .before .looks-of .ensures)
+told-by-requires-2 c κs =
+    let a = c .before .before .before .before .before .before .before .before .before .before .args in
+    few-both (a .first .now) (a .key .now) (a .snapshot) (c .before .before .before .before .get .ensures) (a .second .now) (c .get2 .ensures) (c .before .looks-of .ensures)
 
 -- src/merging_iter.rt:233:1
 returns-3 : tie.Need-returns-3
-returns-3 c = let a = c .before .before .before .before .before .before .before .before .before .before .before .args in let h = c .before .before .before .before .before .before .before .headers-hold .ensures in let k = c .before .before .before .before .before .before .if1 .left in let g = c .before .before .before .before .before .get .ensures in
-    pair-second (a .first .now) (a .second .now) (a .key .now) (a .snapshot) h k g (c .before .before .before .before .answers .ensures) (c .before .before .before .if2 .left) (c .before .before .looks-of .ensures) (c .before .get2 .ensures) _ (c .told-by2 .ensures)
+returns-3 c =
+    let a = c .before .before .before .before .before .before .before .before .before .before .before .args in
+    let h = c .before .before .before .before .before .before .before .headers-hold .ensures in
+    let k = c .before .before .before .before .before .before .if1 .left in
+    let g = c .before .before .before .before .before .get .ensures in
+    pair-second (a .first .now) (a .second .now) (a .key .now) (a .snapshot) h k g (c .before .before .before .before .answers .ensures) (c .before .before .before .if2 .left)
+    (c .before .before .looks-of .ensures) (c .before .get2 .ensures) _ (c .told-by2 .ensures)
 
 pub get-pair-spec : {M : Type 1} → statement M
 get-pair-spec =

@@ -23,7 +23,10 @@ before-requires c κs = search needs
 
 -- src/merging_iter.rt:75:9
 returns : tie.Need-returns
-returns c = let a = c .before .before .before .before .before .before .before .args in nearer-second (keyAt (a .first .now) (a .second .now)) (cutOf (a .cut)) (a .x) (a .y) (c .before .before .before .key-at .ensures) (c .before .before .key-at2 .ensures) (c .before .before2 .ensures) (c .if1 .taken)
+returns c =
+    let a = c .before .before .before .before .before .before .before .args in
+    nearer-second (keyAt (a .first .now) (a .second .now)) (cutOf (a .cut)) (a .x) (a .y) (c .before .before .before .key-at .ensures) (c .before .before .key-at2 .ensures)
+    (c .before .before2 .ensures) (c .if1 .taken)
 
 -- src/merging_iter.rt:77:8
 before-requires-2 : tie.Need-before-requires-2
@@ -31,11 +34,17 @@ before-requires-2 c κs = search needs
 
 -- src/merging_iter.rt:78:9
 returns-2 : tie.Need-returns-2
-returns-2 c = let a = c .before .before .before .before .before .before .before .before .before .args in nearer-first (keyAt (a .first .now) (a .second .now)) (cutOf (a .cut)) (a .x) (a .y) (c .before .before .before .before .before .key-at .ensures) (c .before .before .before .before .key-at2 .ensures) (c .before .before .before .before2 .ensures) (c .before .before .if1 .left) (c .before .before3 .ensures) (c .if2 .taken)
+returns-2 c =
+    let a = c .before .before .before .before .before .before .before .before .before .args in
+    nearer-first (keyAt (a .first .now) (a .second .now)) (cutOf (a .cut)) (a .x) (a .y) (c .before .before .before .before .before .key-at .ensures)
+    (c .before .before .before .before .key-at2 .ensures) (c .before .before .before .before2 .ensures) (c .before .before .if1 .left) (c .before .before3 .ensures) (c .if2 .taken)
 
 -- src/merging_iter.rt:68:1
 returns-3 : tie.Need-returns-3
-returns-3 c = let a = c .before .before .before .before .before .before .before .before .before .args in nearer-both (keyAt (a .first .now) (a .second .now)) (cutOf (a .cut)) (a .x) (a .y) (c .before .before .before .before .before .key-at .ensures) (c .before .before .before .before .key-at2 .ensures) (c .before .before .before .before2 .ensures) (c .before .before .if1 .left) (c .before .before3 .ensures) (c .if2 .left)
+returns-3 c =
+    let a = c .before .before .before .before .before .before .before .before .before .args in
+    nearer-both (keyAt (a .first .now) (a .second .now)) (cutOf (a .cut)) (a .x) (a .y) (c .before .before .before .before .before .key-at .ensures)
+    (c .before .before .before .before .key-at2 .ensures) (c .before .before .before .before2 .ensures) (c .before .before .if1 .left) (c .before .before3 .ensures) (c .if2 .left)
 
 pub nearer-spec : {M : Type 1} → statement M
 nearer-spec =

@@ -31,7 +31,10 @@ sooner-requires c κs = search needs
 
 -- src/merging_iter.rt:103:1
 returns : tie.Need-returns
-returns c = let a = c .before .before .before .before .before .before .before .before .args in nearest-both (a .first .now) (a .second .now) (cutOf (a .cut)) (a .key .now) _ _ (c .before .before .before .before .near .ensures) (c .before .before .before .met-in .ensures) (c .before .before .near2 .ensures) (c .before .met-in2 .ensures) (c .sooner .ensures)
+returns c =
+    let a = c .before .before .before .before .before .before .before .before .args in
+    nearest-both (a .first .now) (a .second .now) (cutOf (a .cut)) (a .key .now) _ _ (c .before .before .before .before .near .ensures) (c .before .before .before .met-in .ensures)
+    (c .before .before .near2 .ensures) (c .before .met-in2 .ensures) (c .sooner .ensures)
 
 pub nearest-key-spec : {M : Type 1} → statement M
 nearest-key-spec =

@@ -41,7 +41,11 @@ number-at-requires-2 c κs = search needs
 
 -- src/merging_iter.rt:154:21
 returns : tie.Need-returns
-returns c = let a = c .before .before .before .before .before .before .before .before .before .before .before .args in rw (c .before .before .before .before .before .before .before .a .given .1, c .before .before .before .before .b .given .1) (newer-second (numberAt (a .first .now) (a .second .now)) (c .before .before .before .before .before .before .before .a .given .0 .0) (c .before .before .before .before .b .given .0 .0) (c .before .before .number-at .ensures) (c .before .number-at2 .ensures) (c .if1 .taken))
+returns c =
+    let a = c .before .before .before .before .before .before .before .before .before .before .before .args in
+    rw (c .before .before .before .before .before .before .before .a .given .1, c .before .before .before .before .b .given .1)
+    (newer-second (numberAt (a .first .now) (a .second .now)) (c .before .before .before .before .before .before .before .a .given .0 .0)
+    (c .before .before .before .before .b .given .0 .0) (c .before .before .number-at .ensures) (c .before .number-at2 .ensures) (c .if1 .taken))
 
 -- src/merging_iter.rt:143:1
 returns-2 : tie.Need-returns-2
@@ -61,7 +65,11 @@ returns-5 c = simp (c .before .before .before .a .given .1, c .enum-told4 .given
 
 -- src/merging_iter.rt:143:1
 returns-6 : tie.Need-returns-6
-returns-6 c = let a = c .before .before .before .before .before .before .before .before .before .before .before .args in rw (c .before .before .before .before .before .before .before .a .given .1, c .before .before .before .before .b .given .1) (newer-first (numberAt (a .first .now) (a .second .now)) (c .before .before .before .before .before .before .before .a .given .0 .0) (c .before .before .before .before .b .given .0 .0) (c .before .before .number-at .ensures) (c .before .number-at2 .ensures) (c .if1 .left))
+returns-6 c =
+    let a = c .before .before .before .before .before .before .before .before .before .before .before .args in
+    rw (c .before .before .before .before .before .before .before .a .given .1, c .before .before .before .before .b .given .1)
+    (newer-first (numberAt (a .first .now) (a .second .now)) (c .before .before .before .before .before .before .before .a .given .0 .0)
+    (c .before .before .before .before .b .given .0 .0) (c .before .before .number-at .ensures) (c .before .number-at2 .ensures) (c .if1 .left))
 
 pub newer-spec : {M : Type 1} → statement M
 newer-spec =

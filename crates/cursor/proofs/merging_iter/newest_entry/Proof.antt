@@ -30,7 +30,10 @@ newer-requires c κs = search needs
 
 -- src/merging_iter.rt:163:1
 returns : tie.Need-returns
-returns c = let a = c .before .before .before .before .before .before .before .before .args in newest-both (a .first .now) (a .second .now) (a .key .now) (a .snapshot) _ _ (c .before .before .before .before .newest .ensures) (c .before .before .before .version-in .ensures) (c .before .before .newest2 .ensures) (c .before .version-in2 .ensures) (c .newer .ensures)
+returns c =
+    let a = c .before .before .before .before .before .before .before .before .args in
+    newest-both (a .first .now) (a .second .now) (a .key .now) (a .snapshot) _ _ (c .before .before .before .before .newest .ensures) (c .before .before .before .version-in .ensures)
+    (c .before .before .newest2 .ensures) (c .before .version-in2 .ensures) (c .newer .ensures)
 
 pub newest-entry-spec : {M : Type 1} → statement M
 newest-entry-spec =

@@ -20,7 +20,9 @@ header-holds-requires-2 c κs = search needs
 
 -- src/places.rt:19:1
 returns-2 : tie.Need-returns-2
-returns-2 c = let a = c .before .before .before .before .before .args in headers-second (a .first .now) (a .second .now) (c .before .before .header-holds .ensures) (c .before .if1 .left) (c .header-holds2 .ensures)
+returns-2 c =
+    let a = c .before .before .before .before .before .args in
+    headers-second (a .first .now) (a .second .now) (c .before .before .header-holds .ensures) (c .before .if1 .left) (c .header-holds2 .ensures)
 
 pub headers-hold-spec : {M : Type 1} → statement M
 headers-hold-spec =

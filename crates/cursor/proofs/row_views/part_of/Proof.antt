@@ -25,7 +25,10 @@ image-of-requires c κs = search needs
 
 -- src/row_views.rt:96:15
 add-end : tie.Need-add-end
-add-end c = let b = c .before .before .before .before .before .before in let a = b .args in omega (arith, part-ends (a .first .now) (a .second .now) (c .before .before .span .given .1) (c .image-of .ensures) (b .pre))
+add-end c =
+    let b = c .before .before .before .before .before .before in
+    let a = b .args in
+    omega (arith, part-ends (a .first .now) (a .second .now) (c .before .before .span .given .1) (c .image-of .ensures) (b .pre))
 
 -- src/row_views.rt:97:5
 sub-result : tie.Need-sub-result
@@ -37,11 +40,16 @@ part-result-start c = search needs
 
 -- src/row_views.rt:97:5
 part-result-end : tie.Need-part-result-end
-part-result-end c = let b = c .before .before .before .before .before .before in let a = b .args in omega (arith, part-ends (a .first .now) (a .second .now) (c .before .before .span .given .1) (c .image-of .ensures) (b .pre))
+part-result-end c =
+    let b = c .before .before .before .before .before .before in
+    let a = b .args in
+    omega (arith, part-ends (a .first .now) (a .second .now) (c .before .before .span .given .1) (c .image-of .ensures) (b .pre))
 
 -- src/row_views.rt:88:1
 returns-2 : tie.Need-returns-2
-returns-2 c = let a = c .before .before .before .before .before .before .before .args in part-lent (a .first .now) (a .second .now) (c .before .before .before .span .given .1) (c .before .image-of .ensures)
+returns-2 c =
+    let a = c .before .before .before .before .before .before .before .args in
+    part-lent (a .first .now) (a .second .now) (c .before .before .before .span .given .1) (c .before .image-of .ensures)
 
 pub part-of-spec : {M : Type 1} → statement M
 part-of-spec =

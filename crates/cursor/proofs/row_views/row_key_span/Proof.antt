@@ -26,7 +26,9 @@ enum-told c = search needs
 
 -- src/row_views.rt:69:9
 returns-2 : tie.Need-returns-2
-returns-2 c = let a = c .before .before .before .before .before .before .args in spans-nowhere keyView (a .first .now) (a .second .now) (a .at) (c .before .before .before .headers-hold .ensures) (c .before .before .if1 .left) (c .enum-told .given .1)
+returns-2 c =
+    let a = c .before .before .before .before .before .before .args in
+    spans-nowhere keyView (a .first .now) (a .second .now) (a .at) (c .before .before .before .headers-hold .ensures) (c .before .before .if1 .left) (c .enum-told .given .1)
 
 -- src/row_views.rt:71:5
 key-span-at-requires : tie.Need-key-span-at-requires
@@ -34,7 +36,10 @@ key-span-at-requires c κs = search needs
 
 -- src/row_views.rt:62:1
 returns-3 : tie.Need-returns-3
-returns-3 c = let a = c .before .before .before .before .before .before .before .before .args in spans-on keyView (a .first .now) (a .second .now) (a .at) (c .before .before .before .before .before .headers-hold .ensures) (c .before .before .before .before .if1 .left) (c .before .before .at .given .1) (c .key-span-at .ensures)
+returns-3 c =
+    let a = c .before .before .before .before .before .before .before .before .args in
+    spans-on keyView (a .first .now) (a .second .now) (a .at) (c .before .before .before .before .before .headers-hold .ensures) (c .before .before .before .before .if1 .left)
+    (c .before .before .at .given .1) (c .key-span-at .ensures)
 
 pub row-key-span-spec : {M : Type 1} → statement M
 row-key-span-spec =

@@ -18,7 +18,9 @@ number-requires c κs = search needs
 
 -- src/row_views.rt:72:9
 returns : tie.Need-returns
-returns c = let a = c .before .before .before .before .before .args in refuses-headers (a .first .now) (a .second .now) (a .at) (c .before .before .headers-hold .ensures) (c .before .if1 .taken) _ (c .number .ensures)
+returns c =
+    let a = c .before .before .before .before .before .args in
+    refuses-headers (a .first .now) (a .second .now) (a .at) (c .before .before .headers-hold .ensures) (c .before .if1 .taken) _ (c .number .ensures)
 
 -- src/row_views.rt:74:20
 enum-known-at : tie.Need-enum-known-at
@@ -30,7 +32,9 @@ enum-told c = search needs
 
 -- src/row_views.rt:75:9
 returns-2 : tie.Need-returns-2
-returns-2 c = let a = c .before .before .before .before .before .before .args in refuses-nowhere (a .first .now) (a .second .now) (a .at) (c .before .before .before .headers-hold .ensures) (c .before .before .if1 .left) (c .enum-told .given .1)
+returns-2 c =
+    let a = c .before .before .before .before .before .before .args in
+    refuses-nowhere (a .first .now) (a .second .now) (a .at) (c .before .before .before .headers-hold .ensures) (c .before .before .if1 .left) (c .enum-told .given .1)
 
 -- src/row_views.rt:77:5
 place-refusal-requires : tie.Need-place-refusal-requires
@@ -38,7 +42,10 @@ place-refusal-requires c κs = search needs
 
 -- src/row_views.rt:67:1
 returns-3 : tie.Need-returns-3
-returns-3 c = let a = c .before .before .before .before .before .before .before .before .args in refuses-on (a .first .now) (a .second .now) (a .at) (c .before .before .before .before .before .headers-hold .ensures) (c .before .before .before .before .if1 .left) (c .before .before .at .given .1) (c .place-refusal .ensures)
+returns-3 c =
+    let a = c .before .before .before .before .before .before .before .before .args in
+    refuses-on (a .first .now) (a .second .now) (a .at) (c .before .before .before .before .before .headers-hold .ensures) (c .before .before .before .before .if1 .left)
+    (c .before .before .at .given .1) (c .place-refusal .ensures)
 
 pub row-refusal-spec : {M : Type 1} → statement M
 row-refusal-spec =

@@ -23,7 +23,9 @@ span-in-requires c κs = search needs
 
 -- src/row_views.rt:52:1
 returns : tie.Need-returns
-returns c = let a = c .before .before .before .before .before .args in spans-at valueView (a .first .now) (a .second .now) (a .p) (c .before .before .image-of .ensures) (c .before .entry-value-span .ensures) (c .span-in .ensures)
+returns c =
+    let a = c .before .before .before .before .before .args in
+    spans-at valueView (a .first .now) (a .second .now) (a .p) (c .before .before .image-of .ensures) (c .before .entry-value-span .ensures) (c .span-in .ensures)
 
 pub value-span-at-spec : {M : Type 1} → statement M
 value-span-at-spec =

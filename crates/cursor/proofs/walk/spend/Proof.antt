@@ -20,11 +20,16 @@ returns c = let a = c .before .before .before .before .args in over-first (a .le
 
 -- src/walk.rt:113:9
 returns-2 : tie.Need-returns-2
-returns-2 c = let a = c .before .before .before .before .before .before .args in over-second (a .left) (a .m) (c .before .before .before .before .before .tick .ensures) (c .before .before .before .before .tick2 .ensures) (c .before .before .if1 .left) (c .if2 .taken)
+returns-2 c =
+    let a = c .before .before .before .before .before .before .args in
+    over-second (a .left) (a .m) (c .before .before .before .before .before .tick .ensures) (c .before .before .before .before .tick2 .ensures) (c .before .before .if1 .left) (c .if2 .taken)
 
 -- src/walk.rt:104:1
 returns-3 : tie.Need-returns-3
-returns-3 c = let a = c .before .before .before .before .before .before .before .before .args in rest-left (a .left) (a .m) (c .before .before .before .before .before .before .before .tick .ensures) (c .before .before .before .before .before .before .tick2 .ensures) (c .before .before .before .before .if1 .left) (c .before .before .if2 .left)
+returns-3 c =
+    let a = c .before .before .before .before .before .before .before .before .args in
+    rest-left (a .left) (a .m) (c .before .before .before .before .before .before .before .tick .ensures) (c .before .before .before .before .before .before .tick2 .ensures)
+    (c .before .before .before .before .if1 .left) (c .before .before .if2 .left)
 
 pub spend-spec : {M : Type 1} → statement M
 spend-spec = tie.close (tie.spec tick-requires tick-requires-2 returns returns-2 returns-3)

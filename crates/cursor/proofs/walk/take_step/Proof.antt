@@ -47,27 +47,49 @@ enum-known-v c = search needs
 
 -- src/walk.rt:47:25
 returns : tie.Need-returns
-returns c = let a = c .before .before .before .before .before .before .before .before .before .before .before .before .before .before .args in step-done (a .first .now) (a .second .now) (a .snapshot) (cutOf (a .cut)) (a .key .now) (rw (c .before .before .before .before .before .before .before .before .m .given .1) at (c .before .before .before .before .before .before .before .before .before .before .nearest-key .ensures)) (c .before .before .before .before .before .before .key-at .ensures) (rw (c .before .before .before .v .given .1) at (c .before .before .before .before .before .newest-entry .ensures)) (c .if1 .taken)
+returns c =
+    let a = c .before .before .before .before .before .before .before .before .before .before .before .before .before .before .args in
+    step-done (a .first .now) (a .second .now) (a .snapshot) (cutOf (a .cut)) (a .key .now)
+    (rw (c .before .before .before .before .before .before .before .before .m .given .1) at
+    (c .before .before .before .before .before .before .before .before .before .before .nearest-key .ensures)) (c .before .before .before .before .before .before .key-at .ensures)
+    (rw (c .before .before .before .v .given .1) at (c .before .before .before .before .before .newest-entry .ensures)) (c .if1 .taken)
 
 -- src/walk.rt:27:1
 returns-2 : tie.Need-returns-2
-returns-2 c = let a = c .before .before .before .before .before .before .args in step-damaged (a .first .now) (a .second .now) (a .snapshot) (cutOf (a .cut)) (a .key .now) (rw (c .enum-told .given .1) at (c .before .before .nearest-key .ensures))
+returns-2 c =
+    let a = c .before .before .before .before .before .before .args in
+    step-damaged (a .first .now) (a .second .now) (a .snapshot) (cutOf (a .cut)) (a .key .now) (rw (c .enum-told .given .1) at (c .before .before .nearest-key .ensures))
 
 -- src/walk.rt:27:1
 returns-3 : tie.Need-returns-3
-returns-3 c = let a = c .before .before .before .before .before .before .args in step-end (a .first .now) (a .second .now) (a .snapshot) (cutOf (a .cut)) (a .key .now) (rw (c .enum-told2 .given .1) at (c .before .before .nearest-key .ensures))
+returns-3 c =
+    let a = c .before .before .before .before .before .before .args in
+    step-end (a .first .now) (a .second .now) (a .snapshot) (cutOf (a .cut)) (a .key .now) (rw (c .enum-told2 .given .1) at (c .before .before .nearest-key .ensures))
 
 -- src/walk.rt:27:1
 returns-4 : tie.Need-returns-4
-returns-4 c = let a = c .before .before .before .before .before .before .before .before .before .before .before .args in step-hurt (a .first .now) (a .second .now) (a .snapshot) (cutOf (a .cut)) (a .key .now) (rw (c .before .before .before .before .before .m .given .1) at (c .before .before .before .before .before .before .before .nearest-key .ensures)) (c .before .before .before .key-at .ensures) (rw (c .enum-told3 .given .1) at (c .before .before .newest-entry .ensures))
+returns-4 c =
+    let a = c .before .before .before .before .before .before .before .before .before .before .before .args in
+    step-hurt (a .first .now) (a .second .now) (a .snapshot) (cutOf (a .cut)) (a .key .now)
+    (rw (c .before .before .before .before .before .m .given .1) at (c .before .before .before .before .before .before .before .nearest-key .ensures))
+    (c .before .before .before .key-at .ensures) (rw (c .enum-told3 .given .1) at (c .before .before .newest-entry .ensures))
 
 -- src/walk.rt:27:1
 returns-5 : tie.Need-returns-5
-returns-5 c = let a = c .before .before .before .before .before .before .before .before .before .before .before .args in step-absent (a .first .now) (a .second .now) (a .snapshot) (cutOf (a .cut)) (a .key .now) (rw (c .before .before .before .before .before .m .given .1) at (c .before .before .before .before .before .before .before .nearest-key .ensures)) (c .before .before .before .key-at .ensures) (rw (c .enum-told4 .given .1) at (c .before .before .newest-entry .ensures))
+returns-5 c =
+    let a = c .before .before .before .before .before .before .before .before .before .before .before .args in
+    step-absent (a .first .now) (a .second .now) (a .snapshot) (cutOf (a .cut)) (a .key .now)
+    (rw (c .before .before .before .before .before .m .given .1) at (c .before .before .before .before .before .before .before .nearest-key .ensures))
+    (c .before .before .before .key-at .ensures) (rw (c .enum-told4 .given .1) at (c .before .before .newest-entry .ensures))
 
 -- src/walk.rt:27:1
 returns-6 : tie.Need-returns-6
-returns-6 c = let a = c .before .before .before .before .before .before .before .before .before .before .before .before .before .before .args in step-deleted (a .first .now) (a .second .now) (a .snapshot) (cutOf (a .cut)) (a .key .now) (rw (c .before .before .before .before .before .before .before .before .m .given .1) at (c .before .before .before .before .before .before .before .before .before .before .nearest-key .ensures)) (c .before .before .before .before .before .before .key-at .ensures) (rw (c .before .before .before .v .given .1) at (c .before .before .before .before .before .newest-entry .ensures)) (c .if1 .left)
+returns-6 c =
+    let a = c .before .before .before .before .before .before .before .before .before .before .before .before .before .before .args in
+    step-deleted (a .first .now) (a .second .now) (a .snapshot) (cutOf (a .cut)) (a .key .now)
+    (rw (c .before .before .before .before .before .before .before .before .m .given .1) at
+    (c .before .before .before .before .before .before .before .before .before .before .nearest-key .ensures)) (c .before .before .before .before .before .before .key-at .ensures)
+    (rw (c .before .before .before .v .given .1) at (c .before .before .before .before .before .newest-entry .ensures)) (c .if1 .left)
 
 pub take-step-spec : {M : Type 1} → statement M
 take-step-spec =

@@ -39,7 +39,11 @@ returns c = rw (c .before .enum-told .given .1) (c .take-step .ensures)
 
 -- src/walk.rt:63:1
 returns-2 : tie.Need-returns-2
-returns-2 c = let a = c .before .before .before .before .before .before .before .before .before .args in rw (c .before .before .before .before .reached .given .1) (turn-past (a .first .now) (a .second .now) (a .snapshot) (cutOf (a .cut)) (a .key .now) (c .before .before .before .before .reached .given .0 .0) (c .before .past .ensures) (c .before .before .key-at .ensures) (c .take-step2 .ensures))
+returns-2 c =
+    let a = c .before .before .before .before .before .before .before .before .before .args in
+    rw (c .before .before .before .before .reached .given .1)
+    (turn-past (a .first .now) (a .second .now) (a .snapshot) (cutOf (a .cut)) (a .key .now) (c .before .before .before .before .reached .given .0 .0) (c .before .past .ensures)
+    (c .before .before .key-at .ensures) (c .take-step2 .ensures))
 
 pub take-turn-spec : {M : Type 1} → statement M
 take-turn-spec =

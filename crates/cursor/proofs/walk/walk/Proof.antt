@@ -27,7 +27,9 @@ population-requires-2 c κs = search needs
 
 -- src/walk.rt:147:5
 loop-holds : tie.Need-loop-holds Inv-loop μ-loop
-loop-holds c = let a = c .before .before .before .before .before .args in kept-start (a .first .now) (a .second .now) (a .snapshot) (cutOf (a .cut)) (a .key .now) (c .before .population .ensures) (c .population2 .ensures)
+loop-holds c =
+    let a = c .before .before .before .before .before .args in
+    kept-start (a .first .now) (a .second .now) (a .snapshot) (cutOf (a .cut)) (a .key .now) (c .before .population .ensures) (c .population2 .ensures)
 
 -- src/walk.rt:148:15
 take-turn-requires : tie.Need-take-turn-requires Inv-loop μ-loop
@@ -39,7 +41,10 @@ enum-told c = search needs
 
 -- src/walk.rt:149:30
 returns : tie.Need-returns Inv-loop μ-loop
-returns c = let a = c .before .before .before .before .before .before .before .before .before .args in kept-damaged (a .first .now) (a .second .now) (a .snapshot) (cutOf (a .cut)) (a .key .now) (c .before .before .before .loop .inv) (rw (c .enum-told .given .1) at (c .before .before .take-turn .ensures))
+returns c =
+    let a = c .before .before .before .before .before .before .before .before .before .args in
+    kept-damaged (a .first .now) (a .second .now) (a .snapshot) (cutOf (a .cut)) (a .key .now) (c .before .before .before .loop .inv)
+    (rw (c .enum-told .given .1) at (c .before .before .take-turn .ensures))
 
 -- src/walk.rt:150:26
 enum-told-2 : tie.Need-enum-told-2 Inv-loop μ-loop
@@ -47,7 +52,10 @@ enum-told-2 c = search needs
 
 -- src/walk.rt:150:26
 returns-2 : tie.Need-returns-2 Inv-loop μ-loop
-returns-2 c = let a = c .before .before .before .before .before .before .before .before .before .args in kept-end (a .first .now) (a .second .now) (a .snapshot) (cutOf (a .cut)) (a .key .now) (c .before .before .before .loop .inv) (rw (c .enum-told2 .given .1) at (c .before .before .take-turn .ensures))
+returns-2 c =
+    let a = c .before .before .before .before .before .before .before .before .before .args in
+    kept-end (a .first .now) (a .second .now) (a .snapshot) (cutOf (a .cut)) (a .key .now) (c .before .before .before .loop .inv)
+    (rw (c .enum-told2 .given .1) at (c .before .before .take-turn .ensures))
 
 -- src/walk.rt:151:24
 enum-known-p : tie.Need-enum-known-p Inv-loop μ-loop
@@ -55,7 +63,10 @@ enum-known-p c = search needs
 
 -- src/walk.rt:151:30
 returns-3 : tie.Need-returns-3 Inv-loop μ-loop
-returns-3 c = let a = c .before .before .before .before .before .before .before .before .before .before .args in kept-done (a .first .now) (a .second .now) (a .snapshot) (cutOf (a .cut)) (a .key .now) (c .before .before .before .before .loop .inv) (rw (c .before .p .given .1) at (c .before .before .before .take-turn .ensures))
+returns-3 c =
+    let a = c .before .before .before .before .before .before .before .before .before .before .args in
+    kept-done (a .first .now) (a .second .now) (a .snapshot) (cutOf (a .cut)) (a .key .now) (c .before .before .before .before .loop .inv)
+    (rw (c .before .p .given .1) at (c .before .before .before .take-turn .ensures))
 
 -- src/walk.rt:152:24
 enum-known-met : tie.Need-enum-known-met Inv-loop μ-loop
@@ -75,15 +86,27 @@ enum-told-3 c = search needs
 
 -- src/walk.rt:154:21
 returns-4 : tie.Need-returns-4 Inv-loop μ-loop
-returns-4 c = let a = c .before .before .before .before .before .before .before .before .before .before .before .before .before .args in kept-over (a .first .now) (a .second .now) (a .snapshot) (cutOf (a .cut)) (a .key .now) (c .before .before .before .before .before .before .before .loop .inv) (rw (c .before .before .before .before .met .given .1) at (c .before .before .before .before .before .before .take-turn .ensures)) (sym (c .before .before .spend .ensures) ∙ c .enum-told3 .given .1)
+returns-4 c =
+    let a = c .before .before .before .before .before .before .before .before .before .before .before .before .before .args in
+    kept-over (a .first .now) (a .second .now) (a .snapshot) (cutOf (a .cut)) (a .key .now) (c .before .before .before .before .before .before .before .loop .inv)
+    (rw (c .before .before .before .before .met .given .1) at (c .before .before .before .before .before .before .take-turn .ensures))
+    (sym (c .before .before .spend .ensures) ∙ c .enum-told3 .given .1)
 
 -- src/walk.rt:147:5
 loop-less : tie.Need-loop-less Inv-loop μ-loop
-loop-less c = let a = c .before .before .before .before .before .before .before .before .before .before .before .before .before .before .before .args in kept-on (a .first .now) (a .second .now) (a .snapshot) (cutOf (a .cut)) (a .key .now) (c .before .before .before .before .before .before .before .before .before .loop .inv) (rw (c .before .before .before .before .before .before .met .given .1) at (c .before .before .before .before .before .before .before .before .take-turn .ensures)) (sym (c .before .before .before .before .spend .ensures) ∙ c .before .before .rest .given .1) .fewer
+loop-less c =
+    let a = c .before .before .before .before .before .before .before .before .before .before .before .before .before .before .before .args in
+    kept-on (a .first .now) (a .second .now) (a .snapshot) (cutOf (a .cut)) (a .key .now) (c .before .before .before .before .before .before .before .before .before .loop .inv)
+    (rw (c .before .before .before .before .before .before .met .given .1) at (c .before .before .before .before .before .before .before .before .take-turn .ensures))
+    (sym (c .before .before .before .before .spend .ensures) ∙ c .before .before .rest .given .1) .fewer
 
 -- src/walk.rt:147:5
 loop-again : tie.Need-loop-again Inv-loop μ-loop
-loop-again c = let a = c .before .before .before .before .before .before .before .before .before .before .before .before .before .before .before .args in kept-on (a .first .now) (a .second .now) (a .snapshot) (cutOf (a .cut)) (a .key .now) (c .before .before .before .before .before .before .before .before .before .loop .inv) (rw (c .before .before .before .before .before .before .met .given .1) at (c .before .before .before .before .before .before .before .before .take-turn .ensures)) (sym (c .before .before .before .before .spend .ensures) ∙ c .before .before .rest .given .1) .kept
+loop-again c =
+    let a = c .before .before .before .before .before .before .before .before .before .before .before .before .before .before .before .args in
+    kept-on (a .first .now) (a .second .now) (a .snapshot) (cutOf (a .cut)) (a .key .now) (c .before .before .before .before .before .before .before .before .before .loop .inv)
+    (rw (c .before .before .before .before .before .before .met .given .1) at (c .before .before .before .before .before .before .before .before .take-turn .ensures))
+    (sym (c .before .before .before .before .spend .ensures) ∙ c .before .before .rest .given .1) .kept
 
 pub walk-spec : {M : Type 1} → statement M
 walk-spec =
