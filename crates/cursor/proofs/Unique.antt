@@ -24,8 +24,8 @@ use Rattle.cursor.specs.Moves.{asked, keyGiven, startKey, MovedIs, moved
 use Rattle.cursor.specs.Pairs.{PairSays, found, deleted, absent, PairLooked, pairAs, GetsPair}
 use Rattle.cursor.specs.Rows.{valueIn, ShowsKey, ShowsValue, Refuses}
 use Rattle.cursor.specs.RowSpans.{PartIn, rowSpanAs, View, RowSpans}
-use Rattle.cursor.specs.declared.row_spans.RowSpan.{RowSpan}
-use Rattle.cursor.specs.declared.row_spans.RowSpan.the-variants as span
+use Rattle.cursor.specs.declared.row_views.RowSpan.{RowSpan}
+use Rattle.cursor.specs.declared.row_views.RowSpan.the-variants as span
 use Rattle.cursor.specs.declared.places.Side.{Side}
 use Rattle.cursor.specs.declared.places.Side.the-variants.{First, Second}
 use Rattle.cursor.specs.declared.places.Place.{Place}

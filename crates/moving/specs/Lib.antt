@@ -5,6 +5,7 @@
 pub mod Entries
 pub mod Nodes
 pub mod Search
+pub mod Neighbours
 pub mod Insert
 pub mod Answers
 pub mod Rows

@@ -6,6 +6,7 @@ pub mod entries; // entries.rt: the bytes of an entry
 pub mod insert; // insert.rt: writing to an image
 pub mod nodes; // nodes.rt: header and nodes of an image
 pub mod skipmap; // skipmap.rt: the search
+pub mod neighbours; // neighbours.rt: neighbours of a key and a number
 pub mod refusals; // refusals.rt: why a call is refused
 pub mod memtable; // memtable.rt: the calls on one table
 pub mod memtable_iter; // memtable_iter.rt: the entry cursor

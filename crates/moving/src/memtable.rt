@@ -15,6 +15,8 @@ use crate::insert::insert;
 use crate::key_types::Number;
 use crate::key_types::Tag;
 use crate::key_types::compare_keys;
+use crate::neighbours::Neighbour;
+use crate::neighbours::first_not_passed;
 use crate::nodes::Frame;
 use crate::nodes::FrameRead;
 use crate::nodes::HEADER_SIZE;
@@ -25,8 +27,6 @@ use crate::nodes::node_of;
 use crate::nodes::read_frame;
 use crate::refusals::Refusal;
 use crate::skipmap::OnEqual;
-use crate::skipmap::Spot;
-use crate::skipmap::search;
 
 // What making a table fresh answers.
 pub enum Freshened {
@@ -165,15 +165,14 @@ pub fn get(s: &[u8], key: &[u8], snapshot: u64) -> Lookup
     if key.len() > MAX_KEY {
         return Lookup::Refused(Refusal::LongKey);
     }
-    let found = search(s, f, OnEqual::Stop, key, snapshot);
-    let spot = found.spot;
-    match spot {
-        Spot::Bad(_) => Lookup::Refused(Refusal::Damaged),
-        Spot::Hit { node, looks } => looked(said_at(s, f, key, node), node, looks),
-        Spot::Ends {
-            before: _,
-            after,
-            looks,
-        } => looked(said_at(s, f, key, after), after, looks),
-    }
+    let stands = first_not_passed(s, f, OnEqual::Stop, key, snapshot);
+    let Neighbour::Node {
+        node,
+        equal: _,
+        looks,
+    } = stands
+    else {
+        return Lookup::Refused(Refusal::Damaged);
+    };
+    looked(said_at(s, f, key, node), node, looks)
 }

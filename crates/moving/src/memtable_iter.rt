@@ -3,24 +3,26 @@
 // A cursor is a node number, not a place in memory: additions never change what it shows. Nothing here writes.
 ghost use lib.ListN.{length};
 ghost use Rattle.moving.specs.Entries.{KeyInside};
-ghost use Rattle.moving.specs.Nodes.{Within, InTable, Numbered};
+ghost use Rattle.moving.specs.Nodes.{InTable, Numbered};
+ghost use Rattle.moving.specs.Neighbours.{NeighbourFits};
 ghost use Rattle.moving.specs.Answers.{TestFits};
 use crate::entries::Keyed;
 use crate::entries::MAX_KEY;
 use crate::entries::entry_less;
 use crate::entries::key_in;
 use crate::key_types::Number;
+use crate::neighbours::Neighbour;
+use crate::neighbours::first_node;
+use crate::neighbours::first_not_passed;
+use crate::neighbours::last_before;
 use crate::nodes::Frame;
 use crate::nodes::FrameRead;
-use crate::nodes::HEAD_LINKS;
 use crate::nodes::LINKS_AT;
 use crate::nodes::NodeRead;
 use crate::nodes::node_of;
 use crate::nodes::read_frame;
 use crate::refusals::Refusal;
 use crate::skipmap::OnEqual;
-use crate::skipmap::Spot;
-use crate::skipmap::search;
 use crate::words::get_word;
 
 // Nowhere, or on a node.
@@ -66,10 +68,18 @@ pub(crate) enum EntryFound {
     Damaged,
 }
 
-// The end of a move: nowhere, or on a node that can be read whole.
-fn land(s: &[u8], f: Frame, node: usize) -> EntryFound
-    requires { ⌜ InTable (length (now s)) f node ⌝ }
+// The end of a move on a neighbour: nowhere, or on a node that can be read whole.
+pub(crate) fn land(s: &[u8], f: Frame, neighbour: Neighbour) -> EntryFound
+    requires { ⌜ NeighbourFits (length (now s)) f neighbour ⌝ }
 {
+    let Neighbour::Node {
+        node,
+        equal: _,
+        looks: _,
+    } = neighbour
+    else {
+        return EntryFound::Damaged;
+    };
     if node < 1 {
         return EntryFound::At(EntryCursor::Nowhere);
     }
@@ -80,7 +90,7 @@ fn land(s: &[u8], f: Frame, node: usize) -> EntryFound
     }
 }
 
-// The same behind an entry: a node that does not come after it is damage.
+// The end of a move behind an entry: a node that does not come after it is damage.
 fn land_after(s: &[u8], f: Frame, from: Keyed, node: usize) -> EntryFound
     requires { ⌜ InTable (length (now s)) f node × KeyInside (length (now s)) from ⌝ }
 {
@@ -98,57 +108,6 @@ fn land_after(s: &[u8], f: Frame, from: Keyed, node: usize) -> EntryFound
             EntryFound::At(EntryCursor::On(node))
         }
     }
-}
-
-// The first entry that a search does not pass.
-pub(crate) fn first_not_passed(
-    s: &[u8],
-    f: Frame,
-    mode: OnEqual,
-    key: &[u8],
-    number: u64,
-) -> EntryFound
-    requires { ⌜ Within (length (now s)) f ⌝ }
-{
-    let found = search(s, f, mode, key, number);
-    let spot = found.spot;
-    match spot {
-        Spot::Bad(_) => EntryFound::Damaged,
-        Spot::Hit { node, looks: _ } => land(s, f, node),
-        Spot::Ends {
-            before: _,
-            after,
-            looks: _,
-        } => land(s, f, after),
-    }
-}
-
-// The last entry before a key and a number.
-pub(crate) fn last_before(s: &[u8], f: Frame, key: &[u8], number: u64) -> EntryFound
-    requires { ⌜ Within (length (now s)) f ⌝ }
-{
-    let found = search(s, f, OnEqual::GoDown, key, number);
-    let spot = found.spot;
-    match spot {
-        Spot::Bad(_) => EntryFound::Damaged,
-        Spot::Hit { node: _, looks: _ } => EntryFound::At(EntryCursor::Nowhere),
-        Spot::Ends {
-            before,
-            after: _,
-            looks: _,
-        } => land(s, f, before),
-    }
-}
-
-// The first entry of all: where the head's lowest link leads.
-pub(crate) fn first_entry(s: &[u8], f: Frame) -> EntryFound
-    requires { ⌜ Within (length (now s)) f ⌝ }
-{
-    let first = get_word(s, HEAD_LINKS);
-    if first > f.count {
-        return EntryFound::Damaged;
-    }
-    land(s, f, first)
 }
 
 // The entry after that of a node: where its lowest link leads.
@@ -179,7 +138,8 @@ fn entry_before(s: &[u8], f: Frame, node: usize) -> EntryFound
         NodeRead::Got(m) => {
             let keyed = m.parts.keyed;
             let tag = keyed.tag;
-            last_before(s, f, key_in(s, keyed), tag.number().is)
+            let before = last_before(s, f, key_in(s, keyed), tag.number().is);
+            land(s, f, before)
         }
     }
 }
@@ -197,7 +157,7 @@ pub fn entry_first(s: &[u8], c: EntryCursor) -> EntryMoved {
     let test = test_cursor(s, c);
     match test {
         CursorTest::Failed(q) => EntryMoved::Refused(q, c),
-        CursorTest::Passed(f) => end_move(first_entry(s, f), c),
+        CursorTest::Passed(f) => end_move(land(s, f, first_node(s, f)), c),
     }
 }
 
@@ -213,7 +173,8 @@ pub fn entry_seek(s: &[u8], c: EntryCursor, key: &[u8], number: u64) -> EntryMov
             if key.len() > MAX_KEY {
                 return EntryMoved::Refused(Refusal::LongKey, c);
             }
-            end_move(first_not_passed(s, f, OnEqual::Stop, key, number), c)
+            let stands = first_not_passed(s, f, OnEqual::Stop, key, number);
+            end_move(land(s, f, stands), c)
         }
     }
 }
@@ -224,7 +185,7 @@ pub fn entry_next(s: &[u8], c: EntryCursor) -> EntryMoved {
     match test {
         CursorTest::Failed(q) => EntryMoved::Refused(q, c),
         CursorTest::Passed(f) => match c {
-            EntryCursor::Nowhere => end_move(first_entry(s, f), c),
+            EntryCursor::Nowhere => end_move(land(s, f, first_node(s, f)), c),
             EntryCursor::On(node) => end_move(entry_after(s, f, node), c),
         },
     }

@@ -10,6 +10,8 @@ use crate::key_types::Number;
 use crate::key_types::Tag;
 use crate::memtable::Lookup;
 use crate::memtable::get;
+use crate::neighbours::Neighbour;
+use crate::neighbours::first_not_passed;
 use crate::nodes::Frame;
 use crate::nodes::FrameRead;
 use crate::nodes::NodeRead;
@@ -17,8 +19,6 @@ use crate::nodes::node_of;
 use crate::nodes::read_frame;
 use crate::refusals::Refusal;
 use crate::skipmap::OnEqual;
-use crate::skipmap::Spot;
-use crate::skipmap::search;
 
 // Whether an entry is held, with the looks that it took to tell.
 pub enum Presence {
@@ -61,17 +61,14 @@ pub fn contains(s: &[u8], key: &[u8], number: u64, kind: u8) -> Presence
     if key.len() > MAX_KEY {
         return Presence::Refused(Refusal::LongKey);
     }
-    let found = search(s, f, OnEqual::Stop, key, number);
-    let spot = found.spot;
-    match spot {
-        Spot::Bad(_) => Presence::Refused(Refusal::Damaged),
-        Spot::Hit { node, looks } => held_at(s, f, node, kind, looks),
-        Spot::Ends {
-            before: _,
-            after: _,
-            looks,
-        } => Presence::NotHeld { looks },
+    let stands = first_not_passed(s, f, OnEqual::Stop, key, number);
+    let Neighbour::Node { node, equal, looks } = stands else {
+        return Presence::Refused(Refusal::Damaged);
+    };
+    if !equal {
+        return Presence::NotHeld { looks };
     }
+    held_at(s, f, node, kind, looks)
 }
 
 // The value of a key at a snapshot, a part of the image itself; empty where the key has no row, or the lookup is refused.

@@ -3,25 +3,28 @@ use Prim.Native.Nat.{ℕ}
 use mathlib.Core.Path.{_≡_, refl, sym, _∙_}
 use mathlib.Core.List.{List}
 use mathlib.Core.Bool.{true, false}
+use Rattle.image.specs.Limits.{maxNumber}
 use Rattle.image.specs.Words.{Bytes}
-use Rattle.image.specs.Readers.{got, bad}
 use Rattle.image.specs.Sound.{headerHolds}
-use Rattle.image.specs.Search.{toStop, Found, searched, standing}
+use Rattle.image.specs.Search.{toStop, toGoDown, toPass, searched}
 use Rattle.image.specs.Refusals.{damaged, Answer, refused, given, reading}
 use Rattle.image.specs.Lookup.{Looked, saidAt}
 use Rattle.image.specs.EntryMoves.{Cursor}
-use Rattle.image.specs.Cuts.{Cut, nearAt, nearest, NearLands}
+use Rattle.image.specs.Cuts.{Cut, all, from, above, below, nearAt, nearest, NearLands}
 use Rattle.image.specs.Newest.{NewestAt as NewestAtIs, withNode, newestAt, NewestLandsOn}
 use Rattle.image.proofs.Nearest.{nearest-right}
 use Rattle.image.proofs.Newest.{newest-right}
 use Rattle.image.proofs.Landing.{near-lands, newest-lands}
 use Rattle.table.specs.Nodes.{Framed}
 use Rattle.table.specs.Memtable.{andThen}
-use Rattle.table.specs.Questions.{IfGiven, nodesOf, hitAs, Nears, newestAs, TellsNewest}
+use Rattle.table.specs.Questions.{IfGiven, nodesOf, Behind, hitAs, Nears, newestAs, TellsNewest}
+use Rattle.table.specs.declared.neighbours.Neighbour.{Neighbour}
 use Rattle.table.specs.declared.questions.Hit.{Hit}
 use Rattle.table.specs.declared.questions.NewestAt.{NewestAt}
 use Rattle.table.specs.declared.nodes.Frame.{Frame}
 use Rattle.table.proofs.NodeBytes.{framed-holds}
+use Rattle.table.specs.Neighbours.{Beside, stood, standsAt, passedAt, firstAt, Finds}
+use Rattle.table.proofs.Adjacent.{ended-on, failed, lands-standing, lands-passed, lands-first}
 use Rattle.table.proofs.Lookups.{read-on}
 
 -- ---- what an answer means follows from what it is
@@ -52,6 +55,21 @@ nodes-read xs f = rw (framed-holds xs f) (f .count-is)
 pub nodes-none : (xs : List ℕ) → headerHolds xs ≡ false → 0 ≡ nodesOf xs
 nodes-none xs h = rw h
 
+-- ---- the neighbour behind a cut
+
+module _ {xs : List ℕ} {f : Frame} {t : List ℕ} {r : Neighbour} where
+  pub behind-all : Finds xs f (firstAt xs) r → Behind xs f all t r
+  behind-all e = record { exact = lands-first xs refl (e .exact); inside = e .inside }
+
+  pub behind-from : Finds xs f (standsAt xs toStop t maxNumber) r → Behind xs f from t r
+  behind-from e = record { exact = lands-standing xs refl toStop t maxNumber (e .exact); inside = e .inside }
+
+  pub behind-above : Finds xs f (standsAt xs toPass t 0) r → Behind xs f above t r
+  behind-above e = record { exact = lands-standing xs refl toPass t 0 (e .exact); inside = e .inside }
+
+  pub behind-below : Finds xs f (passedAt xs toGoDown t maxNumber) r → Behind xs f below t r
+  behind-below e = record { exact = lands-passed xs refl t maxNumber (e .exact); inside = e .inside }
+
 -- ---- each way out; the header is tested first
 
 module _ (xs : List ℕ) where
@@ -72,11 +90,13 @@ module _ (xs : List ℕ) where
     near-at c t e = e ∙ rw holds
 
     module _ (k : List ℕ) (s : ℕ) where
-      pub newest-damaged : {o : ℕ} → bad o ≡ searched xs toStop k s → refused damaged ≡ newestAt xs k s
+      pub newest-damaged : refused damaged ≡ standsAt xs toStop k s → refused damaged ≡ newestAt xs k s
       unfolding newestAt
-      newest-damaged e = rw (holds, ← e)
+      newest-damaged e = let (o, b) = failed stood (searched xs toStop k s) e in rw (holds, ← b)
 
       -- at the node where the search stands
-      pub newest-said : (f : Found) → got f ≡ searched xs toStop k s → {m : Answer Looked} → m ≡ reading (saidAt xs k (standing f)) given → {a : Answer NewestAtIs} → a ≡ andThen m (λ l. given (withNode (standing f) l)) → a ≡ newestAt xs k s
+      pub newest-said : {b : Beside} → given b ≡ standsAt xs toStop k s → {m : Answer Looked} → m ≡ reading (saidAt xs k (b .node)) given → {a : Answer NewestAtIs} → a ≡ andThen m (λ l. given (withNode (b .node) l)) → a ≡ newestAt xs k s
       unfolding newestAt
-      newest-said f e h g = read-on (saidAt xs k (standing f)) (λ l. given (withNode (standing f) l)) h g ∙ rw (holds, ← e)
+      newest-said {b} e h f =
+          read-on (saidAt xs k (b .node)) (λ l. given (withNode (b .node) l)) h f ∙ ended-on (searched xs toStop k s) e (λ d. reading (saidAt xs k (d .node)) (λ l. given (withNode (d .node) l)))
+          ∙ sym (rw holds)

@@ -11,21 +11,23 @@ use borrow.Author.Tests.{le-leb, lt-leb, leb-true, not-true, not-false}
 use Rattle.rule.specs.Order.{isLess}
 use Rattle.rule.proofs.Lists.{both-true}
 use Rattle.image.specs.Limits.{maxKey, maxNumber}
-use Rattle.image.specs.Readers.{got, bad, bind}
+use Rattle.image.specs.Readers.{got, bad}
 use Rattle.image.specs.Words.{word}
 use Rattle.image.specs.Entries.{Keyed, keyIn, numberIn, compareKeyed}
 use Rattle.image.specs.Nodes.{count, Node, nodeAt, linksAt, linkPlace, linkOf}
 use Rattle.image.specs.Sound.{headerHolds}
-use Rattle.image.specs.Search.{OnEqual, Found, searched}
 use Rattle.image.specs.Refusals.{badImage, noNode, damaged, Answer, refused, given, demand, reading}
-use Rattle.image.specs.EntryMoves.{Cursor, nowhere, on, cursorAt, inTable, EntryMove, seek, next, previous, landing, landingAfter, firstEntry, lastBefore, moved, allowed, entryMove}
+use Rattle.image.specs.EntryMoves.{Cursor, nowhere, on, cursorAt, inTable, EntryMove, seek, next, previous, landingAfter, lastBefore, moved, allowed, entryMove}
 use Rattle.image.proofs.EntryMoves.{move-leads}
 use Rattle.image.proofs.Landing.{move-lands}
 use Rattle.table.specs.Refusals.{refusalIs}
 use Rattle.table.specs.Nodes.{Framed, Numbered}
-use Rattle.table.specs.MemtableIter.{cursorIs, Tested, movedAs, HandsBack, Moves}
+use Rattle.table.specs.Neighbours.{neighbourAs}
+use Rattle.table.specs.MemtableIter.{cursorIs, Tested, landsOn, movedAs, HandsBack, Moves}
 use Rattle.table.proofs.NodeBytes.{framed-holds, node-links, node-link-inside}
 use Rattle.table.specs.declared.nodes.Frame.{Frame}
+use Rattle.table.specs.declared.neighbours.Neighbour.{Neighbour}
+use Rattle.table.specs.declared.neighbours.Neighbour.the-variants.{Node as Neighbouring}
 use Rattle.table.specs.declared.refusals.Refusal.{Refusal}
 use Rattle.table.specs.declared.refusals.Refusal.the-variants as refusal
 use Rattle.table.specs.declared.memtable_iter.EntryCursor.{EntryCursor}
@@ -83,15 +85,17 @@ module _ (xs : List ℕ) (c : Cursor) {t : CursorTest} (tested : Tested xs c t) 
 -- ---- the end of a move
 
 module _ (xs : List ℕ) where
-  pub land-none : (i : ℕ) → i < 1 → given nowhere ≡ reading (landing xs (cursorAt i)) given
-  land-none i h = rw (← at-none i h)
+  -- on a neighbour
+  module _ {b : Neighbour} {i looks : ℕ} {same : Bool} (is : b ≡ Neighbouring i same looks) where
+    pub land-none : i < 1 → given nowhere ≡ landsOn xs (neighbourAs b)
+    land-none h = rw (is, ← at-none i h)
 
-  module _ (i : ℕ) (some : 1 ≤ i) where
-    pub land-bad : {o : ℕ} → bad o ≡ nodeAt xs i → refused damaged ≡ reading (landing xs (cursorAt i)) given
-    land-bad e = rw (← at-node i some, ← e)
+    module _ (some : 1 ≤ i) where
+      pub land-bad : {o : ℕ} → bad o ≡ nodeAt xs i → refused damaged ≡ landsOn xs (neighbourAs b)
+      land-bad e = rw (is, ← at-node i some, ← e)
 
-    pub land-on : {m : Node} → got m ≡ nodeAt xs i → given (on i) ≡ reading (landing xs (cursorAt i)) given
-    land-on e = rw (← at-node i some, ← e)
+      pub land-on : {m : Node} → got m ≡ nodeAt xs i → given (on i) ≡ landsOn xs (neighbourAs b)
+      land-on e = rw (is, ← at-node i some, ← e)
 
   module _ (from : Keyed) (o : ℕ) where
     pub after-none : (i : ℕ) → i < 1 → given nowhere ≡ reading (landingAfter xs from o (cursorAt i)) given
@@ -108,24 +112,7 @@ module _ (xs : List ℕ) where
         pub after-on : not b ≡ false → given (on i) ≡ reading (landingAfter xs from o (cursorAt i)) given
         after-on h = rw (← at-node i some, ← node, ← less, not-false b h)
 
--- ---- where a link or a search leads
-
-module _ (xs : List ℕ) {f : Frame} (framed : Framed xs f) {x : ℕ} (link : x ≡ word xs 16) where
-  pub first-damaged : f .count < x → refused damaged ≡ reading (firstEntry xs) given
-  unfolding linkOf
-  first-damaged h = rw (← link, lt-leb x (count xs) (omega (arith, framed .count-is)))
-
-  pub first-lands : x ≤ f .count → {r : Answer Cursor} → r ≡ reading (landing xs (cursorAt x)) given → r ≡ reading (firstEntry xs) given
-  unfolding linkOf
-  first-lands h e = e ∙ rw (← link, le-leb x (count xs) (omega (arith, framed .count-is)))
-
--- a search whose answer names a node
-module _ (xs : List ℕ) (mode : OnEqual) (node : Found → ℕ) (k : List ℕ) (n : ℕ) where
-  pub searched-damaged : {o : ℕ} → bad o ≡ searched xs mode k n → refused damaged ≡ reading (bind (searched xs mode k n) (λ r. landing xs (cursorAt (node r)))) given
-  searched-damaged e = rw (← e)
-
-  pub searched-lands : (q : Found) → got q ≡ searched xs mode k n → {r : Answer Cursor} → r ≡ reading (landing xs (cursorAt (node q))) given → r ≡ reading (bind (searched xs mode k n) (λ r. landing xs (cursorAt (node r)))) given
-  searched-lands q e g = g ∙ rw (← e)
+-- ---- where a link leads
 
 module _ (xs : List ℕ) (i : ℕ) where
   pub next-damaged : {o : ℕ} → bad o ≡ nodeAt xs i → refused damaged ≡ reading (moved xs next (on i)) given

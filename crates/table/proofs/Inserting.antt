@@ -20,7 +20,7 @@ use Rattle.image.proofs.Spots.{search-ended}
 use Rattle.image.proofs.Add.{good-place, room-for}
 use Rattle.table.specs.Skipmap.{Searches}
 use Rattle.table.specs.Insert.{RoomIs, EntryFits, Insertable, Inserts}
-use Rattle.table.proofs.Lookups.{told}
+use Rattle.table.proofs.Adjacent.{told}
 use Rattle.table.proofs.Insertion.{written-same}
 use Rattle.table.specs.declared.nodes.Frame.{Frame}
 use Rattle.table.specs.declared.skipmap.Searched.{Searched}

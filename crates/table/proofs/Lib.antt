@@ -9,6 +9,7 @@ pub mod Parts
 pub mod Looking
 pub mod Inserting
 pub mod Answers
+pub mod Adjacent
 pub mod Lookups
 pub mod Asking
 pub mod Checking

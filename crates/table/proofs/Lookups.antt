@@ -1,5 +1,5 @@
--- The ways out of a lookup and of a question for presence.
-use Prim.Native.Nat.{ℕ, zero, suc, _+_, _%_, _<_, _≤_}
+-- The ways out of a lookup.
+use Prim.Native.Nat.{ℕ, zero, suc, _+_, _-_, _%_, _<_, _≤_}
 use native.Mathlib.Omega.{arith}
 use mathlib.Core.Path.{_≡_, refl, sym, ap, _∙_}
 use mathlib.Core.List.{List}
@@ -15,19 +15,14 @@ use Rattle.image.specs.Readers.{Read, got, bad}
 use Rattle.image.specs.Entries.{keyIn}
 use Rattle.image.specs.Nodes.{free, slot, Node, nodeAt}
 use Rattle.image.specs.Sound.{Header, headerHolds}
-use Rattle.image.specs.Search.{OnEqual, toStop, hit, ends, searched}
+use Rattle.image.specs.Search.{toStop, searched}
 use Rattle.image.specs.Refusals.{badImage, badNumber, longKey, damaged, Answer, refused, given, reading}
 use Rattle.image.specs.Lookup.{Looked, found, deleted, absent, Lookup, saidAt, get}
 use Rattle.image.proofs.Nodes.{node-inside}
-use Rattle.image.proofs.Spots.{search-stopped, search-ended}
 use Rattle.image.proofs.Lookup.{get-given, get-tells}
-use Rattle.table.specs.Nodes.{Framed, Numbered, InTable}
-use Rattle.table.specs.Skipmap.{spotRead, Searches}
+use Rattle.table.specs.Neighbours.{Beside, stood, standsAt}
 use Rattle.table.specs.Memtable.{andThen, lookupAs, Gets}
-use Rattle.table.specs.declared.nodes.Frame.{Frame}
-use Rattle.table.specs.declared.skipmap.Searched.{Searched}
-use Rattle.table.specs.declared.skipmap.Spot.{Spot}
-use Rattle.table.specs.declared.skipmap.Spot.the-variants.{Hit, Ends}
+use Rattle.table.proofs.Adjacent.{ended-on, failed}
 use Rattle.table.specs.declared.memtable.Lookup.{Lookup as LookupAnswer}
 
 -- key and value of a node that was read lie in the image
@@ -91,21 +86,20 @@ module _ (xs k : List ℕ) (s : ℕ) where
       get-key t = rw (holds, numbered, lt-leb (length k) maxKey t)
 
       module _ (short : length k ≤ maxKey) where
-        pub get-damaged : {o : ℕ} → bad o ≡ searched xs toStop k s → refused damaged ≡ get xs k s
+        pub get-damaged : refused damaged ≡ standsAt xs toStop k s → refused damaged ≡ get xs k s
         unfolding get
-        get-damaged e = rw (holds, numbered, le-leb (length k) maxKey short, ← e)
+        get-damaged e = let (o, b) = failed stood (searched xs toStop k s) e in rw (holds, numbered, le-leb (length k) maxKey short, ← b)
 
         -- what is answered of what is said
         abbrev answer : ℕ → Looked → Answer Lookup
         answer looks a = given (record { says = a; looks = looks })
 
-        pub get-hit : {x looks : ℕ} → got (hit x looks) ≡ searched xs toStop k s → {m : Answer Looked} → m ≡ reading (saidAt xs k x) given → {r : Answer Lookup} → r ≡ andThen m (answer looks) → r ≡ get xs k s
+        -- at the node where the search stands
+        pub get-said : {b : Beside} → given b ≡ standsAt xs toStop k s → {m : Answer Looked} → m ≡ reading (saidAt xs k (b .node)) given → {r : Answer Lookup} → r ≡ andThen m (answer (b .looks)) → r ≡ get xs k s
         unfolding get
-        get-hit {x} {looks} e h f = read-on (saidAt xs k x) (answer looks) h f ∙ rw (holds, numbered, le-leb (length k) maxKey short, ← e)
-
-        pub get-ends : {p x looks : ℕ} {prev : List ℕ} → got (ends p x looks prev) ≡ searched xs toStop k s → {m : Answer Looked} → m ≡ reading (saidAt xs k x) given → {r : Answer Lookup} → r ≡ andThen m (answer looks) → r ≡ get xs k s
-        unfolding get
-        get-ends {p} {x} {looks} e h f = read-on (saidAt xs k x) (answer looks) h f ∙ rw (holds, numbered, le-leb (length k) maxKey short, ← e)
+        get-said {b} e h f =
+            read-on (saidAt xs k (b .node)) (answer (b .looks)) h f ∙ ended-on (searched xs toStop k s) e (λ d. reading (saidAt xs k (d .node)) (answer (d .looks)))
+            ∙ sym (rw (holds, numbered, le-leb (length k) maxKey short))
 
 -- what the answer means follows from what it is
 pub gets : (xs k : List ℕ) (s : ℕ) (r : LookupAnswer) → lookupAs r ≡ get xs k s → Gets xs k s r
@@ -114,21 +108,3 @@ gets xs k s r e = record {
   looks = λ a f. (get-given xs k s a (sym e ∙ f)) .1;
   rule = λ sound low short. let (a, f, t, _) = get-tells xs sound k s low short in (a, e ∙ f, t);
 }
-
--- where a search ended, by the spot that the code was told
-module _ {xs : List ℕ} {mode : OnEqual} {k : List ℕ} {s : ℕ} {r : Searched} (q : Searches xs mode k s r) where
-  pub told : (v : Spot) → r .spot ≡ v → spotRead v (q .prev) ≡ searched xs mode k s
-  told v e = ap (λ (t : Spot). spotRead t (q .prev)) (sym e) ∙ q .exact
-
-  module _ {f : Frame} (framed : Framed xs f) where
-    pub hit-in : {x looks : ℕ} → r .spot ≡ Hit x looks → InTable xs f x
-    hit-in {x} {looks} e = record { framed = framed; most = omega (arith, (search-stopped xs mode k s (told (Hit x looks) e)) .most, framed .count-is) }
-
-    pub hit-numbered : {x looks : ℕ} → r .spot ≡ Hit x looks → Numbered xs f x
-    hit-numbered {x} {looks} e = let h = search-stopped xs mode k s (told (Hit x looks) e) in record { framed = framed; some = h .some; most = omega (arith, h .most, framed .count-is) }
-
-    pub after-in : {p x looks : ℕ} → r .spot ≡ Ends p x looks → InTable xs f x
-    after-in {p} {x} {looks} e = record { framed = framed; most = omega (arith, (search-ended xs mode k s (told (Ends p x looks) e)) .after-most, framed .count-is) }
-
-    pub before-in : {p x looks : ℕ} → r .spot ≡ Ends p x looks → InTable xs f p
-    before-in {p} {x} {looks} e = record { framed = framed; most = omega (arith, (search-ended xs mode k s (told (Ends p x looks) e)) .before-most, framed .count-is) }

@@ -16,7 +16,7 @@ use Rattle.image.specs.Limits.{maxKey, maxNumber}
 use Rattle.image.specs.Readers.{got, bad}
 use Rattle.image.specs.Nodes.{Node, nodeAt}
 use Rattle.image.specs.Sound.{headerHolds, Sound, held}
-use Rattle.image.specs.Search.{toStop, Found, hit, ends, searched}
+use Rattle.image.specs.Search.{toStop, hit, searched}
 use Rattle.image.specs.Refusals.{badImage, badKind, badNumber, longKey, damaged, Answer, refused, given, reading}
 use Rattle.image.specs.Lookup.{Looked, found, deleted, absent, Presence as PresenceIs, heldAt, presence}
 use Rattle.image.specs.EntryMoves.{on, viewed, valueView}
@@ -24,9 +24,11 @@ use Rattle.image.specs.Meaning.{Tells}
 use Rattle.image.proofs.Lookup.{presence-given, presence-tells}
 use Rattle.image.proofs.Views.{value-shown}
 use Rattle.table.specs.Nodes.{Framed}
+use Rattle.table.specs.Neighbours.{stood, standsAt}
 use Rattle.table.specs.Memtable.{lookupAs, Gets}
 use Rattle.table.specs.Presence.{presenceAs, Contains, saidValue, foundValue, rowValue, ShowsRow}
 use Rattle.table.proofs.NodeBytes.{framed-holds}
+use Rattle.table.proofs.Adjacent.{failed, equal-hit, other-ends}
 use Rattle.table.specs.declared.nodes.Frame.{Frame}
 use Rattle.table.specs.declared.memtable.Lookup.{Lookup}
 use Rattle.table.specs.declared.memtable.Lookup.the-variants as lookup
@@ -86,17 +88,19 @@ module _ (xs k : List ℕ) (n kind : ℕ) where
         has-key t = rw (holds, kinded, numbered, lt-leb (length k) maxKey t)
 
         module _ (short : length k ≤ maxKey) where
-          pub has-damaged : {o : ℕ} → bad o ≡ searched xs toStop k n → refused damaged ≡ presence xs k n kind
+          pub has-damaged : refused damaged ≡ standsAt xs toStop k n → refused damaged ≡ presence xs k n kind
           unfolding presence
-          has-damaged e = rw (holds, kinded, numbered, le-leb (length k) maxKey short, ← e)
+          has-damaged e = let (o, b) = failed stood (searched xs toStop k n) e in rw (holds, kinded, numbered, le-leb (length k) maxKey short, ← b)
 
-          pub has-hit : {x looks : ℕ} → got (hit x looks) ≡ searched xs toStop k n → {r : Answer PresenceIs} → r ≡ reading (heldAt xs kind (hit x looks)) (answer looks) → r ≡ presence xs k n kind
-          unfolding presence
-          has-hit e f = f ∙ rw (holds, kinded, numbered, le-leb (length k) maxKey short, ← e)
+          -- at the node where the search stands, by whether it is equal to the probe
+          module _ {x looks : ℕ} {same : Bool} (stands : given (record { node = x; equal = same; looks = looks }) ≡ standsAt xs toStop k n) where
+            pub has-hit : not same ≡ false → {r : Answer PresenceIs} → r ≡ reading (heldAt xs kind (hit x looks)) (answer looks) → r ≡ presence xs k n kind
+            unfolding presence
+            has-hit t f = f ∙ rw (holds, kinded, numbered, le-leb (length k) maxKey short, ← equal-hit (searched xs toStop k n) stands t)
 
-          pub has-not : {p x looks : ℕ} {prev : List ℕ} → got (ends p x looks prev) ≡ searched xs toStop k n → answer looks false ≡ presence xs k n kind
-          unfolding presence
-          has-not e = rw (holds, kinded, numbered, le-leb (length k) maxKey short, ← e)
+            pub has-not : not same ≡ true → answer looks false ≡ presence xs k n kind
+            unfolding presence
+            has-not t = let (p, prev, e) = other-ends (searched xs toStop k n) stands t in rw (holds, kinded, numbered, le-leb (length k) maxKey short, ← e)
 
 -- ---- the value of a key
 

@@ -3,6 +3,7 @@ pub mod Entries
 pub mod Insert
 pub mod Nodes
 pub mod Skipmap
+pub mod Neighbours
 pub mod Refusals
 pub mod Memtable
 pub mod Questions

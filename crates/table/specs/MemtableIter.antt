@@ -6,11 +6,13 @@ use mathlib.Core.Logic.{_⊎_}
 use mathlib.Core.List.{List}
 use mathlib.Core.Bool.{true, false}
 use Rattle.image.specs.Sound.{headerHolds, Sound}
-use Rattle.image.specs.Refusals.{badImage, noNode, damaged, Answer, refused, given}
-use Rattle.image.specs.EntryMoves.{Cursor, nowhere, on, inTable, EntryMove, entryMove}
+use Rattle.image.specs.Refusals.{badImage, noNode, damaged, Answer, refused, given, reading}
+use Rattle.image.specs.EntryMoves.{Cursor, nowhere, on, cursorAt, inTable, landing, EntryMove, entryMove}
 use Rattle.image.specs.Meaning.{Stands, Fitting, Leads, Lands}
 use Rattle.table.specs.Refusals.{refusalIs}
 use Rattle.table.specs.Nodes.{Framed}
+use Rattle.table.specs.Neighbours.{Beside}
+use Rattle.table.specs.Memtable.{andThen}
 use Rattle.table.specs.declared.memtable_iter.EntryCursor.{EntryCursor}
 use Rattle.table.specs.declared.memtable_iter.EntryCursor.the-variants.{Nowhere, On}
 use Rattle.table.specs.declared.memtable_iter.EntryMoved.{EntryMoved}
@@ -34,6 +36,10 @@ Tested xs c (Failed q) = ((headerHolds xs ≡ false) × (refusalIs q ≡ badImag
 abbrev pub foundAs : EntryFound → Answer Cursor
 foundAs (At c) = given (cursorIs c)
 foundAs Damaged = refused damaged
+
+-- the end of a move on a neighbour
+abbrev pub landsOn : List ℕ → Answer Beside → Answer Cursor
+landsOn xs a = andThen a (λ b. reading (landing xs (cursorAt (b .node))) given)
 
 -- the answer of a move
 abbrev pub movedAs : EntryMoved → Answer Cursor

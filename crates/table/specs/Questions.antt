@@ -6,10 +6,14 @@ use mathlib.Core.List.{List}
 use Rattle.rule.specs.Lists.{cond}
 use Rattle.image.specs.Nodes.{count}
 use Rattle.image.specs.Sound.{headerHolds, Sound}
-use Rattle.image.specs.Refusals.{damaged, Answer, refused, given}
+use Rattle.image.specs.Refusals.{damaged, Answer, refused, given, reading}
 use Rattle.image.specs.EntryMoves.{Cursor, nowhere, on}
-use Rattle.image.specs.Cuts.{Cut as CutIs, all, from, above, below, nearest, NearestIs, NearLands}
+use Rattle.image.specs.Cuts.{Cut as CutIs, all, from, above, below, nearAt, nearest, NearestIs, NearLands}
 use Rattle.image.specs.Newest.{NewestAt as NewestAtIs, value, deletion, nothing, newestAt, NewestIs, NewestLandsOn}
+use Rattle.table.specs.Neighbours.{neighbourAs, NeighbourIn}
+use Rattle.table.specs.MemtableIter.{landsOn}
+use Rattle.table.specs.declared.nodes.Frame.{Frame}
+use Rattle.table.specs.declared.neighbours.Neighbour.{Neighbour}
 use Rattle.table.specs.declared.questions.Cut.{Cut}
 use Rattle.table.specs.declared.questions.Cut.the-variants.{All, From, Above, Below}
 use Rattle.table.specs.declared.questions.Hit.{Hit}
@@ -43,6 +47,11 @@ cutOf All = all
 cutOf From = from
 cutOf Above = above
 cutOf Below = below
+
+-- the neighbour behind a cut
+pub record Behind (xs : List ℕ) (f : Frame) (c : CutIs) (t : List ℕ) (r : Neighbour) : Type 0 where
+  pub exact : landsOn xs (neighbourAs r) ≡ reading (nearAt xs c t) given
+  pub inside : NeighbourIn xs f r
 
 -- the answer
 abbrev pub hitAs : Hit → Answer Cursor

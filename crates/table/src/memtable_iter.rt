@@ -4,27 +4,28 @@ ghost use mathlib.Core.Path.{_≡_};
 ghost use Prim.Native.Nat.{ℕ, _+_, _≤_};
 ghost use lib.ListN.{length};
 ghost use Rattle.image.specs.Refusals.{given, reading};
-ghost use Rattle.image.specs.EntryMoves.{on, cursorAt, first, seek, next, previous, landing, landingAfter, firstEntry, firstNotPassed, lastBefore, moved};
+ghost use Rattle.image.specs.EntryMoves.{on, cursorAt, first, seek, next, previous, landingAfter, moved};
 ghost use Rattle.table.specs.Entries.{keyedOf};
-ghost use Rattle.table.specs.Nodes.{Framed, Numbered, InTable};
-ghost use Rattle.table.specs.Skipmap.{modeOf};
-ghost use Rattle.table.specs.MemtableIter.{cursorIs, Tested, foundAs, movedAs, HandsBack, Moves};
+ghost use Rattle.table.specs.Nodes.{Numbered, InTable};
+ghost use Rattle.table.specs.Neighbours.{neighbourAs, NeighbourIn};
+ghost use Rattle.table.specs.MemtableIter.{cursorIs, Tested, foundAs, landsOn, movedAs, HandsBack, Moves};
 use crate::entries::Keyed;
 use crate::entries::MAX_KEY;
 use crate::entries::entry_less;
 use crate::entries::key_in;
 use crate::key_types::Number;
+use crate::neighbours::Neighbour;
+use crate::neighbours::first_node;
+use crate::neighbours::first_not_passed;
+use crate::neighbours::last_before;
 use crate::nodes::Frame;
 use crate::nodes::FrameRead;
-use crate::nodes::HEAD_LINKS;
 use crate::nodes::LINKS_AT;
 use crate::nodes::NodeRead;
 use crate::nodes::node_of;
 use crate::nodes::read_frame;
 use crate::refusals::Refusal;
 use crate::skipmap::OnEqual;
-use crate::skipmap::Spot;
-use crate::skipmap::search;
 use crate::words::get_word;
 
 // Nowhere, or on a node.
@@ -70,11 +71,19 @@ pub(crate) enum EntryFound {
     Damaged,
 }
 
-// The end of a move: nowhere, or on a node that can be read whole.
-fn land(s: &[u8], f: Frame, node: usize) -> EntryFound
-    requires { ⌜ InTable (now s) f node ⌝ }
-    ensures { λ r. ⌜ foundAs r ≡ reading (landing (now (s .entry)) (cursorAt node)) given ⌝ }
+// The end of a move on a neighbour: nowhere, or on a node that can be read whole.
+pub(crate) fn land(s: &[u8], f: Frame, neighbour: Neighbour) -> EntryFound
+    requires { ⌜ NeighbourIn (now s) f neighbour ⌝ }
+    ensures { λ r. ⌜ foundAs r ≡ landsOn (now (s .entry)) (neighbourAs neighbour) ⌝ }
 {
+    let Neighbour::Node {
+        node,
+        equal: _,
+        looks: _,
+    } = neighbour
+    else {
+        return EntryFound::Damaged;
+    };
     if node < 1 {
         return EntryFound::At(EntryCursor::Nowhere);
     }
@@ -85,7 +94,7 @@ fn land(s: &[u8], f: Frame, node: usize) -> EntryFound
     }
 }
 
-// The same behind an entry: a node that does not come after it is damage.
+// The end of a move behind an entry: a node that does not come after it is damage.
 fn land_after(s: &[u8], f: Frame, from: Keyed, node: usize) -> EntryFound
     requires { ⌜ InTable (now s) f node × ((from .«key_at») + (from .«key_len») ≤ length (now s)) ⌝ }
     ensures { λ r. ⌜ ((o : ℕ) → foundAs r ≡ reading (landingAfter (now (s .entry)) (keyedOf from) o (cursorAt node)) given) ⌝ }
@@ -104,60 +113,6 @@ fn land_after(s: &[u8], f: Frame, from: Keyed, node: usize) -> EntryFound
             EntryFound::At(EntryCursor::On(node))
         }
     }
-}
-
-// The first entry that a search does not pass.
-pub(crate) fn first_not_passed(
-    s: &[u8],
-    f: Frame,
-    mode: OnEqual,
-    key: &[u8],
-    number: u64,
-) -> EntryFound
-    requires { ⌜ Framed (now s) f ⌝ }
-    ensures { λ r. ⌜ foundAs r ≡ reading (firstNotPassed (now (s .entry)) (modeOf mode) (now (key .entry)) number) given ⌝ }
-{
-    let found = search(s, f, mode, key, number);
-    let spot = found.spot;
-    match spot {
-        Spot::Bad(_) => EntryFound::Damaged,
-        Spot::Hit { node, looks: _ } => land(s, f, node),
-        Spot::Ends {
-            before: _,
-            after,
-            looks: _,
-        } => land(s, f, after),
-    }
-}
-
-// The last entry before a key and a number.
-pub(crate) fn last_before(s: &[u8], f: Frame, key: &[u8], number: u64) -> EntryFound
-    requires { ⌜ Framed (now s) f ⌝ }
-    ensures { λ r. ⌜ foundAs r ≡ reading (lastBefore (now (s .entry)) (now (key .entry)) number) given ⌝ }
-{
-    let found = search(s, f, OnEqual::GoDown, key, number);
-    let spot = found.spot;
-    match spot {
-        Spot::Bad(_) => EntryFound::Damaged,
-        Spot::Hit { node: _, looks: _ } => EntryFound::At(EntryCursor::Nowhere),
-        Spot::Ends {
-            before,
-            after: _,
-            looks: _,
-        } => land(s, f, before),
-    }
-}
-
-// The first entry of all: where the head's lowest link leads.
-pub(crate) fn first_entry(s: &[u8], f: Frame) -> EntryFound
-    requires { ⌜ Framed (now s) f ⌝ }
-    ensures { λ r. ⌜ foundAs r ≡ reading (firstEntry (now (s .entry))) given ⌝ }
-{
-    let first = get_word(s, HEAD_LINKS);
-    if first > f.count {
-        return EntryFound::Damaged;
-    }
-    land(s, f, first)
 }
 
 // The entry after that of a node: where its lowest link leads.
@@ -190,7 +145,8 @@ fn entry_before(s: &[u8], f: Frame, node: usize) -> EntryFound
         NodeRead::Got(m) => {
             let keyed = m.parts.keyed;
             let tag = keyed.tag;
-            last_before(s, f, key_in(s, keyed), tag.number().is)
+            let before = last_before(s, f, key_in(s, keyed), tag.number().is);
+            land(s, f, before)
         }
     }
 }
@@ -212,7 +168,7 @@ pub fn entry_first(s: &[u8], c: EntryCursor) -> EntryMoved
     let test = test_cursor(s, c);
     match test {
         CursorTest::Failed(q) => EntryMoved::Refused(q, c),
-        CursorTest::Passed(f) => end_move(first_entry(s, f), c),
+        CursorTest::Passed(f) => end_move(land(s, f, first_node(s, f)), c),
     }
 }
 
@@ -230,7 +186,8 @@ pub fn entry_seek(s: &[u8], c: EntryCursor, key: &[u8], number: u64) -> EntryMov
             if key.len() > MAX_KEY {
                 return EntryMoved::Refused(Refusal::LongKey, c);
             }
-            end_move(first_not_passed(s, f, OnEqual::Stop, key, number), c)
+            let stands = first_not_passed(s, f, OnEqual::Stop, key, number);
+            end_move(land(s, f, stands), c)
         }
     }
 }
@@ -243,7 +200,7 @@ pub fn entry_next(s: &[u8], c: EntryCursor) -> EntryMoved
     match test {
         CursorTest::Failed(q) => EntryMoved::Refused(q, c),
         CursorTest::Passed(f) => match c {
-            EntryCursor::Nowhere => end_move(first_entry(s, f), c),
+            EntryCursor::Nowhere => end_move(land(s, f, first_node(s, f)), c),
             EntryCursor::On(node) => end_move(entry_after(s, f, node), c),
         },
     }

@@ -8,21 +8,23 @@ ghost use Rattle.image.specs.Cuts.{cmpOf, pastOf};
 ghost use Rattle.image.specs.Newest.{withNode};
 ghost use Rattle.table.specs.Memtable.{saidAs, andThen};
 ghost use Rattle.table.specs.MemtableIter.{foundAs};
-ghost use Rattle.table.specs.Questions.{nodesOf, cutOf, hitAs, Nears, newestAs, TellsNewest};
+ghost use Rattle.table.specs.Nodes.{Framed};
+ghost use Rattle.table.specs.Questions.{nodesOf, cutOf, Behind, hitAs, Nears, newestAs, TellsNewest};
 use crate::key_types::Number;
 use crate::key_types::compare_keys;
 use crate::memtable::Said;
 use crate::memtable::said_at;
 use crate::memtable_iter::EntryCursor;
 use crate::memtable_iter::EntryFound;
-use crate::memtable_iter::first_entry;
-use crate::memtable_iter::first_not_passed;
-use crate::memtable_iter::last_before;
+use crate::memtable_iter::land;
+use crate::neighbours::Neighbour;
+use crate::neighbours::first_node;
+use crate::neighbours::first_not_passed;
+use crate::neighbours::last_before;
+use crate::nodes::Frame;
 use crate::nodes::FrameRead;
 use crate::nodes::read_frame;
 use crate::skipmap::OnEqual;
-use crate::skipmap::Spot;
-use crate::skipmap::search;
 
 // A cut at a key: upward every key, the keys from it on or those above it; downward the keys below it.
 pub enum Cut {
@@ -93,6 +95,19 @@ fn hit_at(found: EntryFound) -> Hit
     }
 }
 
+// The neighbour behind a cut: upward the first node that a search does not pass, downward the last that it passes.
+fn behind(s: &[u8], f: Frame, cut: Cut, key: &[u8]) -> Neighbour
+    requires { ⌜ Framed (now s) f ⌝ }
+    ensures { λ r. ⌜ Behind (now (s .entry)) f (cutOf cut) (now (key .entry)) r ⌝ }
+{
+    match cut {
+        Cut::All => first_node(s, f),
+        Cut::From => first_not_passed(s, f, OnEqual::Stop, key, Number::MAX),
+        Cut::Above => first_not_passed(s, f, OnEqual::Pass, key, 0),
+        Cut::Below => last_before(s, f, key, Number::MAX),
+    }
+}
+
 // A node with the key that comes next behind a cut. It can be read whole.
 pub fn near(s: &[u8], cut: Cut, key: &[u8]) -> Hit
     ensures { λ r. ⌜ Nears (now (s .entry)) (cutOf cut) (now (key .entry)) r ⌝ }
@@ -100,12 +115,7 @@ pub fn near(s: &[u8], cut: Cut, key: &[u8]) -> Hit
     let FrameRead::Good(f) = read_frame(s) else {
         return Hit::Damaged;
     };
-    match cut {
-        Cut::All => hit_at(first_entry(s, f)),
-        Cut::From => hit_at(first_not_passed(s, f, OnEqual::Stop, key, Number::MAX)),
-        Cut::Above => hit_at(first_not_passed(s, f, OnEqual::Pass, key, 0)),
-        Cut::Below => hit_at(last_before(s, f, key, Number::MAX)),
-    }
+    hit_at(land(s, f, behind(s, f, cut, key)))
 }
 
 // The newest entry of a key: the node of a value, the node of a deletion, or that there is none.
@@ -135,15 +145,14 @@ pub fn newest(s: &[u8], key: &[u8], number: u64) -> NewestAt
     let FrameRead::Good(f) = read_frame(s) else {
         return NewestAt::Damaged;
     };
-    let found = search(s, f, OnEqual::Stop, key, number);
-    let spot = found.spot;
-    match spot {
-        Spot::Bad(_) => NewestAt::Damaged,
-        Spot::Hit { node, looks: _ } => with_node(said_at(s, f, key, node), node),
-        Spot::Ends {
-            before: _,
-            after,
-            looks: _,
-        } => with_node(said_at(s, f, key, after), after),
-    }
+    let stands = first_not_passed(s, f, OnEqual::Stop, key, number);
+    let Neighbour::Node {
+        node,
+        equal: _,
+        looks: _,
+    } = stands
+    else {
+        return NewestAt::Damaged;
+    };
+    with_node(said_at(s, f, key, node), node)
 }

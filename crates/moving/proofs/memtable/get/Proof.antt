@@ -1,3 +1,4 @@
+use native.Mathlib.Omega.{arith}
 use borrow.Author.Needs.{needs}
 use Rattle.moving.proofs.memtable.get.Statement.{statement}
 use Rattle.moving.proofs.memtable.get.Tie as tie
@@ -23,38 +24,26 @@ returns-2 c = search needs
 returns-3 : tie.Need-returns-3
 returns-3 c = search needs
 
-search-requires : tie.Need-search-requires
-search-requires c κs = rw (c .before .before .before .before .f .given .1) at (c .before .before .before .before .before .before .read-frame .ensures)
+first-not-passed-requires : tie.Need-first-not-passed-requires
+first-not-passed-requires c κs = rw (c .before .before .before .before .f .given .1) at (c .before .before .before .before .before .before .read-frame .ensures)
+
+enum-known-stands : tie.Need-enum-known-stands
+enum-known-stands c = search needs
 
 enum-told-2 : tie.Need-enum-told-2
 enum-told-2 c = search needs
 
-enum-known-spot : tie.Need-enum-known-spot
-enum-known-spot c = search needs
-
-said-at-requires : tie.Need-said-at-requires
-said-at-requires c κs = let w = rw (c .before .before .before .before .before .before .before .before .f .given .1) at (c .before .before .before .before .before .before .before .before .before .before .read-frame .ensures) in let t = rw (c .before .spot .given .1) at (c .before .before .before .search .ensures .spot) in search needs
-
-looked-requires : tie.Need-looked-requires
-looked-requires c κs = let w = rw (c .before .before .before .before .before .before .before .before .before .f .given .1) at (c .before .before .before .before .before .before .before .before .before .before .before .read-frame .ensures) in let t = rw (c .before .before .spot .given .1) at (c .before .before .before .before .search .ensures .spot) in search needs
-
-enum-known-spot-2 : tie.Need-enum-known-spot-2
-enum-known-spot-2 c = search needs
-
-said-at-requires-2 : tie.Need-said-at-requires-2
-said-at-requires-2 c κs = let w = rw (c .before .before .before .before .before .before .before .before .f .given .1) at (c .before .before .before .before .before .before .before .before .before .before .read-frame .ensures) in let t = rw (c .before .spot2 .given .1) at (c .before .before .before .search .ensures .spot) in search needs
-
-looked-requires-2 : tie.Need-looked-requires-2
-looked-requires-2 c κs = let w = rw (c .before .before .before .before .before .before .before .before .before .f .given .1) at (c .before .before .before .before .before .before .before .before .before .before .before .read-frame .ensures) in let t = rw (c .before .before .spot2 .given .1) at (c .before .before .before .before .search .ensures .spot) in search needs
-
 returns-4 : tie.Need-returns-4
 returns-4 c = search needs
 
+said-at-requires : tie.Need-said-at-requires
+said-at-requires c κs = (rw (c .before .stands .given .1) at (c .before .before .before .first-not-passed .ensures)) .0
+
+looked-requires : tie.Need-looked-requires
+looked-requires c κs = let at = rw (c .before .before .stands .given .1) at (c .before .before .before .before .first-not-passed .ensures) in omega (arith, at .1, at .0 .within .few)
+
 returns-5 : tie.Need-returns-5
 returns-5 c = search needs
-
-returns-6 : tie.Need-returns-6
-returns-6 c = search needs
 
 pub get-spec : {M : Type 1} → statement M
 get-spec =
@@ -67,14 +56,10 @@ get-spec =
     fits-requires
     returns-2
     returns-3
-    search-requires
+    first-not-passed-requires
+    enum-known-stands
     enum-told-2
-    enum-known-spot
+    returns-4
     said-at-requires
     looked-requires
-    enum-known-spot-2
-    said-at-requires-2
-    looked-requires-2
-    returns-4
-    returns-5
-    returns-6)
+    returns-5)

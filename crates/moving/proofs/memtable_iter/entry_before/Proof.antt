@@ -20,6 +20,9 @@ number-requires c κs = search needs
 last-before-requires : tie.Need-last-before-requires
 last-before-requires c κs = search needs
 
+land-requires : tie.Need-land-requires
+land-requires c κs = search needs
+
 returns : tie.Need-returns
 returns c = search needs
 
@@ -36,5 +39,6 @@ entry-before-spec =
     key-in-requires
     number-requires
     last-before-requires
+    land-requires
     returns
     returns-2)

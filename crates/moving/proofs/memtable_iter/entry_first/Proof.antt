@@ -11,8 +11,11 @@ enum-known-test c = search needs
 enum-known-test-2 : tie.Need-enum-known-test-2
 enum-known-test-2 c = search needs
 
-first-entry-requires : tie.Need-first-entry-requires
-first-entry-requires c κs = let i = rw (c .before .test2 .given .1) at (c .before .before .before .test-cursor .ensures) in i .0
+first-node-requires : tie.Need-first-node-requires
+first-node-requires c κs = let i = rw (c .before .test2 .given .1) at (c .before .before .before .test-cursor .ensures) in i .0
+
+land-requires : tie.Need-land-requires
+land-requires c κs = search needs
 
 end-move-requires : tie.Need-end-move-requires
 end-move-requires c κs = search needs
@@ -30,7 +33,8 @@ entry-first-spec =
     test-cursor-requires
     enum-known-test
     enum-known-test-2
-    first-entry-requires
+    first-node-requires
+    land-requires
     end-move-requires
     returns
     returns-2)

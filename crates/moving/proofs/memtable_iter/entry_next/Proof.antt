@@ -14,8 +14,11 @@ enum-known-test-2 c = search needs
 enum-told : tie.Need-enum-told
 enum-told c = search needs
 
-first-entry-requires : tie.Need-first-entry-requires
-first-entry-requires c κs = let i = rw (c .before .before .before .test2 .given .1) at (c .before .before .before .before .before .test-cursor .ensures) in i .0
+first-node-requires : tie.Need-first-node-requires
+first-node-requires c κs = let i = rw (c .before .before .before .test2 .given .1) at (c .before .before .before .before .before .test-cursor .ensures) in i .0
+
+land-requires : tie.Need-land-requires
+land-requires c κs = search needs
 
 end-move-requires : tie.Need-end-move-requires
 end-move-requires c κs = search needs
@@ -46,7 +49,8 @@ entry-next-spec =
     enum-known-test
     enum-known-test-2
     enum-told
-    first-entry-requires
+    first-node-requires
+    land-requires
     end-move-requires
     enum-known-c
     entry-after-requires

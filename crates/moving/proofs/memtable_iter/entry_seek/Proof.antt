@@ -23,6 +23,9 @@ returns-2 c = search needs
 first-not-passed-requires : tie.Need-first-not-passed-requires
 first-not-passed-requires c κs = let i = rw (c .before .before .before .before .test2 .given .1) at (c .before .before .before .before .before .before .test-cursor .ensures) in i .0
 
+land-requires : tie.Need-land-requires
+land-requires c κs = search needs
+
 end-move-requires : tie.Need-end-move-requires
 end-move-requires c κs = search needs
 
@@ -43,6 +46,7 @@ entry-seek-spec =
     returns
     returns-2
     first-not-passed-requires
+    land-requires
     end-move-requires
     returns-3
     returns-4)

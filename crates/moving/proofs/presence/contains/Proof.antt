@@ -1,3 +1,5 @@
+use native.Mathlib.Omega.{arith}
+use borrow.Author.Tests.{not-false}
 use borrow.Author.Needs.{needs}
 use Rattle.moving.proofs.presence.contains.Statement.{statement}
 use Rattle.moving.proofs.presence.contains.Tie as tie
@@ -29,29 +31,27 @@ returns-3 c = search needs
 returns-4 : tie.Need-returns-4
 returns-4 c = search needs
 
-search-requires : tie.Need-search-requires
-search-requires c κs = rw (c .before .before .before .before .before .before .f .given .1) at (c .before .before .before .before .before .before .before .before .read-frame .ensures)
+first-not-passed-requires : tie.Need-first-not-passed-requires
+first-not-passed-requires c κs = rw (c .before .before .before .before .before .before .f .given .1) at (c .before .before .before .before .before .before .before .before .read-frame .ensures)
+
+enum-known-stands : tie.Need-enum-known-stands
+enum-known-stands c = search needs
 
 enum-told-2 : tie.Need-enum-told-2
 enum-told-2 c = search needs
-
-enum-known-spot : tie.Need-enum-known-spot
-enum-known-spot c = search needs
-
-held-at-requires : tie.Need-held-at-requires
-held-at-requires c κs = let w = rw (c .before .before .before .before .before .before .before .before .before .before .f .given .1) at (c .before .before .before .before .before .before .before .before .before .before .before .before .read-frame .ensures) in let t = rw (c .before .spot .given .1) at (c .before .before .before .search .ensures .spot) in search needs
-
-enum-known-spot-2 : tie.Need-enum-known-spot-2
-enum-known-spot-2 c = search needs
 
 returns-5 : tie.Need-returns-5
 returns-5 c = search needs
 
 returns-6 : tie.Need-returns-6
-returns-6 c = search needs
+returns-6 c = let at = rw (c .before .before .stands .given .1) at (c .before .before .before .before .first-not-passed .ensures) in omega (arith, at .1, at .0 .within .few)
+
+held-at-requires : tie.Need-held-at-requires
+held-at-requires c κs = let at = rw (c .before .before .stands .given .1) at (c .before .before .before .before .first-not-passed .ensures) in
+    (record { within = at .0 .within; least = at .2 (not-false _ (c .if4 .left)); most = at .0 .most }, omega (arith, at .1, at .0 .within .few))
 
 returns-7 : tie.Need-returns-7
-returns-7 c = let w = rw (c .before .before .before .before .before .before .before .before .before .before .f .given .1) at (c .before .before .before .before .before .before .before .before .before .before .before .before .read-frame .ensures) in let t = rw (c .before .spot2 .given .1) at (c .before .before .before .search .ensures .spot) in search needs
+returns-7 c = search needs
 
 pub contains-spec : {M : Type 1} → statement M
 contains-spec =
@@ -66,11 +66,10 @@ contains-spec =
     fits-requires
     returns-3
     returns-4
-    search-requires
+    first-not-passed-requires
+    enum-known-stands
     enum-told-2
-    enum-known-spot
-    held-at-requires
-    enum-known-spot-2
     returns-5
     returns-6
+    held-at-requires
     returns-7)

@@ -14,38 +14,26 @@ enum-told c = search needs
 returns : tie.Need-returns
 returns c = search needs
 
-search-requires : tie.Need-search-requires
-search-requires c κs = rw (c .before .f .given .1) at (c .before .before .before .read-frame .ensures)
+first-not-passed-requires : tie.Need-first-not-passed-requires
+first-not-passed-requires c κs = rw (c .before .f .given .1) at (c .before .before .before .read-frame .ensures)
+
+enum-known-stands : tie.Need-enum-known-stands
+enum-known-stands c = search needs
 
 enum-told-2 : tie.Need-enum-told-2
 enum-told-2 c = search needs
 
-enum-known-spot : tie.Need-enum-known-spot
-enum-known-spot c = search needs
+returns-2 : tie.Need-returns-2
+returns-2 c = search needs
 
 said-at-requires : tie.Need-said-at-requires
-said-at-requires c κs = let w = rw (c .before .before .before .before .before .f .given .1) at (c .before .before .before .before .before .before .before .read-frame .ensures) in let t = rw (c .before .spot .given .1) at (c .before .before .before .search .ensures .spot) in search needs
+said-at-requires c κs = (rw (c .before .stands .given .1) at (c .before .before .before .first-not-passed .ensures)) .0
 
 with-node-requires : tie.Need-with-node-requires
 with-node-requires c κs = search needs
 
-enum-known-spot-2 : tie.Need-enum-known-spot-2
-enum-known-spot-2 c = search needs
-
-said-at-requires-2 : tie.Need-said-at-requires-2
-said-at-requires-2 c κs = let w = rw (c .before .before .before .before .before .f .given .1) at (c .before .before .before .before .before .before .before .read-frame .ensures) in let t = rw (c .before .spot2 .given .1) at (c .before .before .before .search .ensures .spot) in search needs
-
-with-node-requires-2 : tie.Need-with-node-requires-2
-with-node-requires-2 c κs = search needs
-
-returns-2 : tie.Need-returns-2
-returns-2 c = search needs
-
 returns-3 : tie.Need-returns-3
 returns-3 c = search needs
-
-returns-4 : tie.Need-returns-4
-returns-4 c = search needs
 
 pub newest-spec : {M : Type 1} → statement M
 newest-spec =
@@ -55,14 +43,10 @@ newest-spec =
     enum-known-f
     enum-told
     returns
-    search-requires
+    first-not-passed-requires
+    enum-known-stands
     enum-told-2
-    enum-known-spot
+    returns-2
     said-at-requires
     with-node-requires
-    enum-known-spot-2
-    said-at-requires-2
-    with-node-requires-2
-    returns-2
-    returns-3
-    returns-4)
+    returns-3)

@@ -1,4 +1,5 @@
 -- `memtable_iter::entry_before`: the last entry before that of the node that was read.
+use Rattle.table.proofs.Adjacent.{lands-passed}
 use Rattle.table.proofs.Cursors.{previous-damaged, previous-searches}
 use Rattle.table.proofs.Lookups.{parts-inside}
 use borrow.Author.Needs.{needs}
@@ -23,11 +24,15 @@ number-requires c κs = search needs
 last-before-requires : tie.Need-last-before-requires
 last-before-requires c κs = search needs
 
+land-requires : tie.Need-land-requires
+land-requires c κs = search needs
+
 returns : tie.Need-returns
 returns c = let a = c .before .before .before .before .args in previous-damaged (a .s .now) (a .node) (rw (c .enum-told .given .1) at (c .before .before .node-of .ensures))
 
 returns-2 : tie.Need-returns-2
-returns-2 c = let a = c .before .before .before .before .before .before .before .before .before .before .args in previous-searches (a .s .now) (a .node) (rw (c .before .before .before .before .before .before .read .given .1) at (c .before .before .before .before .before .before .before .before .node-of .ensures)) (c .before .before .key-in .ensures) (c .before .number .ensures) (c .last-before .ensures)
+returns-2 c = let a = c .before .before .before .before .before .before .before .before .before .before .before .args in let node = rw (c .before .before .before .before .before .before .before .read .given .1) at (c .before .before .before .before .before .before .before .before .before .node-of .ensures) in
+    previous-searches (a .s .now) (a .node) node (c .before .before .before .key-in .ensures) (c .before .before .number .ensures) (lands-passed (a .s .now) (c .land .ensures) _ _ (c .before .last-before .ensures .exact))
 
 pub entry-before-spec : {M : Type 1} → statement M
 entry-before-spec =
@@ -39,5 +44,6 @@ entry-before-spec =
     key-in-requires
     number-requires
     last-before-requires
+    land-requires
     returns
     returns-2)

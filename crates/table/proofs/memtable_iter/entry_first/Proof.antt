@@ -1,5 +1,6 @@
 use mathlib.Core.Path.{refl}
 use Rattle.table.specs.MemtableIter.{cursorIs}
+use Rattle.table.proofs.Adjacent.{lands-first}
 use Rattle.table.proofs.Cursors.{ready, move-refused, move-made}
 use borrow.Author.Needs.{needs}
 use Rattle.table.proofs.memtable_iter.entry_first.Statement.{statement}
@@ -14,8 +15,11 @@ enum-known-test c = search needs
 enum-known-test-2 : tie.Need-enum-known-test-2
 enum-known-test-2 c = search needs
 
-first-entry-requires : tie.Need-first-entry-requires
-first-entry-requires c κs = let a = c .before .before .before .before .before .args in ready (a .s .now) (cursorIs (a .c)) (c .before .before .before .test-cursor .ensures) (c .before .test2 .given .1)
+first-node-requires : tie.Need-first-node-requires
+first-node-requires c κs = let a = c .before .before .before .before .before .args in ready (a .s .now) (cursorIs (a .c)) (c .before .before .before .test-cursor .ensures) (c .before .test2 .given .1)
+
+land-requires : tie.Need-land-requires
+land-requires c κs = search needs
 
 end-move-requires : tie.Need-end-move-requires
 end-move-requires c κs = search needs
@@ -24,7 +28,8 @@ returns : tie.Need-returns
 returns c = move-refused _ _ _ (c .before .before .before .test-cursor .ensures) (c .before .test .given .1)
 
 returns-2 : tie.Need-returns-2
-returns-2 c = move-made _ _ _ (c .before .before .before .before .before .test-cursor .ensures) (c .before .before .before .test2 .given .1) (λ a. refl) _ (c .end-move .ensures .0) refl (c .end-move .ensures .1) (c .before .first-entry .ensures)
+returns-2 c = let leads = lands-first (c .before .before .before .before .before .before .before .before .args .s .now) (c .before .land .ensures) (c .before .before .first-node .ensures .exact) in
+    move-made _ _ _ (c .before .before .before .before .before .before .test-cursor .ensures) (c .before .before .before .before .test2 .given .1) (λ a. refl) _ (c .end-move .ensures .0) refl (c .end-move .ensures .1) leads
 
 pub entry-first-spec : {M : Type 1} → statement M
 entry-first-spec =
@@ -33,7 +38,8 @@ entry-first-spec =
     test-cursor-requires
     enum-known-test
     enum-known-test-2
-    first-entry-requires
+    first-node-requires
+    land-requires
     end-move-requires
     returns
     returns-2)

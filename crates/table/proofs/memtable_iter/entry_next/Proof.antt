@@ -1,5 +1,6 @@
 use mathlib.Core.Path.{refl, ap}
 use Rattle.table.specs.MemtableIter.{cursorIs}
+use Rattle.table.proofs.Adjacent.{lands-first}
 use Rattle.table.proofs.Cursors.{ready, numbered, move-refused, move-made}
 use borrow.Author.Needs.{needs}
 use Rattle.table.proofs.memtable_iter.entry_next.Statement.{statement}
@@ -17,8 +18,11 @@ enum-known-test-2 c = search needs
 enum-told : tie.Need-enum-told
 enum-told c = search needs
 
-first-entry-requires : tie.Need-first-entry-requires
-first-entry-requires c κs = let a = c .before .before .before .before .before .before .before .args in ready (a .s .now) (cursorIs (a .c)) (c .before .before .before .before .before .test-cursor .ensures) (c .before .before .before .test2 .given .1)
+first-node-requires : tie.Need-first-node-requires
+first-node-requires c κs = let a = c .before .before .before .before .before .before .before .args in ready (a .s .now) (cursorIs (a .c)) (c .before .before .before .before .before .test-cursor .ensures) (c .before .before .before .test2 .given .1)
+
+land-requires : tie.Need-land-requires
+land-requires c κs = search needs
 
 end-move-requires : tie.Need-end-move-requires
 end-move-requires c κs = search needs
@@ -36,7 +40,8 @@ returns : tie.Need-returns
 returns c = move-refused _ _ _ (c .before .before .before .test-cursor .ensures) (c .before .test .given .1)
 
 returns-2 : tie.Need-returns-2
-returns-2 c = move-made _ _ _ (c .before .before .before .before .before .before .before .test-cursor .ensures) (c .before .before .before .before .before .test2 .given .1) (λ x. refl) _ (c .end-move .ensures .0) (c .before .before .enum-told .given .1) (rw (c .before .before .enum-told .given .1) at (c .end-move .ensures .1)) (c .before .first-entry .ensures)
+returns-2 c = let leads = lands-first (c .before .before .before .before .before .before .before .before .before .before .args .s .now) (c .before .land .ensures) (c .before .before .first-node .ensures .exact) in let at = c .before .before .before .enum-told .given .1 in
+    move-made _ _ _ (c .before .before .before .before .before .before .before .before .test-cursor .ensures) (c .before .before .before .before .before .before .test2 .given .1) (λ x. refl) _ (c .end-move .ensures .0) at (rw at at (c .end-move .ensures .1)) leads
 
 returns-3 : tie.Need-returns-3
 returns-3 c = move-made _ _ _ (c .before .before .before .before .before .before .before .before .test-cursor .ensures) (c .before .before .before .before .before .before .test2 .given .1) (λ x. refl) _ (c .end-move2 .ensures .0) (c .before .before .before .c .given .1) (c .end-move2 .ensures .1) (c .before .entry-after .ensures)
@@ -49,7 +54,8 @@ entry-next-spec =
     enum-known-test
     enum-known-test-2
     enum-told
-    first-entry-requires
+    first-node-requires
+    land-requires
     end-move-requires
     enum-known-c
     entry-after-requires

@@ -1,5 +1,7 @@
 use mathlib.Core.Path.{refl}
+use Rattle.image.specs.Search.{toStop}
 use Rattle.table.specs.MemtableIter.{cursorIs}
+use Rattle.table.proofs.Adjacent.{lands-standing}
 use Rattle.table.proofs.Cursors.{ready, move-refused, move-made, seek-number, seek-key, seek-allowed}
 use borrow.Author.Needs.{needs}
 use Rattle.table.proofs.memtable_iter.entry_seek.Statement.{statement}
@@ -26,6 +28,9 @@ returns-2 c = let a = c .before .before .before .before .before .before .before 
 first-not-passed-requires : tie.Need-first-not-passed-requires
 first-not-passed-requires c κs = let a = c .before .before .before .before .before .before .before .before .before .args in ready (a .s .now) (cursorIs (a .c)) (c .before .before .before .before .before .before .test-cursor .ensures) (c .before .before .before .before .test2 .given .1)
 
+land-requires : tie.Need-land-requires
+land-requires c κs = search needs
+
 end-move-requires : tie.Need-end-move-requires
 end-move-requires c κs = search needs
 
@@ -33,7 +38,10 @@ returns-3 : tie.Need-returns-3
 returns-3 c = move-refused _ _ _ (c .before .before .before .test-cursor .ensures) (c .before .test .given .1)
 
 returns-4 : tie.Need-returns-4
-returns-4 c = let a = c .before .before .before .before .before .before .before .before .before .before .before .args in move-made _ _ _ (c .before .before .before .before .before .before .before .before .test-cursor .ensures) (c .before .before .before .before .before .before .test2 .given .1) (seek-allowed (a .s .now) (a .key .now) (a .number) (a .c) (c .before .before .before .before .before .before .before .before .test-cursor .ensures) (c .before .before .before .before .before .before .test2 .given .1) (c .before .before .before .before .fits2 .ensures) (c .before .before .before .if1 .left) (c .before .before .if2 .left)) _ (c .end-move .ensures .0) refl (c .end-move .ensures .1) (c .before .first-not-passed .ensures)
+returns-4 c = let a = c .before .before .before .before .before .before .before .before .before .before .before .before .args in let tested = c .before .before .before .before .before .before .before .before .before .test-cursor .ensures in let passed = c .before .before .before .before .before .before .before .test2 .given .1 in
+    let allowed = seek-allowed (a .s .now) (a .key .now) (a .number) (a .c) tested passed (c .before .before .before .before .before .fits2 .ensures) (c .before .before .before .before .if1 .left) (c .before .before .before .if2 .left) in
+    let leads = lands-standing (a .s .now) (c .before .land .ensures) toStop (a .key .now) (a .number) (c .before .before .first-not-passed .ensures .exact) in
+    move-made _ _ _ tested passed allowed _ (c .end-move .ensures .0) refl (c .end-move .ensures .1) leads
 
 pub entry-seek-spec : {M : Type 1} → statement M
 entry-seek-spec =
@@ -46,6 +54,7 @@ entry-seek-spec =
     returns
     returns-2
     first-not-passed-requires
+    land-requires
     end-move-requires
     returns-3
     returns-4)

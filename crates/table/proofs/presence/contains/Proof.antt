@@ -1,5 +1,6 @@
+use Rattle.image.specs.Search.{toStop}
+use Rattle.table.proofs.Adjacent.{equal-numbered}
 use Rattle.table.proofs.Presences.{has, has-header, has-kind, has-number, has-key, has-damaged, has-hit, has-not}
-use Rattle.table.proofs.Lookups.{told, hit-numbered}
 use borrow.Author.Needs.{needs}
 use Rattle.table.proofs.presence.contains.Statement.{statement}
 use Rattle.table.proofs.presence.contains.Tie as tie
@@ -31,29 +32,29 @@ returns-3 c = has _ _ _ _ _ (has-number _ _ _ _ (rw (c .before .before .before .
 returns-4 : tie.Need-returns-4
 returns-4 c = has _ _ _ _ _ (has-key _ _ _ _ (rw (c .before .before .before .before .before .before .f .given .1) at (c .before .before .before .before .before .before .before .before .read-frame .ensures)) (c .before .before .before .before .known .ensures) (c .before .before .before .if1 .left) (c .before .before .fits2 .ensures) (c .before .if2 .left) (c .if3 .taken))
 
-search-requires : tie.Need-search-requires
-search-requires c κs = (rw (c .before .before .before .before .before .before .f .given .1) at (c .before .before .before .before .before .before .before .before .read-frame .ensures))
+first-not-passed-requires : tie.Need-first-not-passed-requires
+first-not-passed-requires c κs = rw (c .before .before .before .before .before .before .f .given .1) at (c .before .before .before .before .before .before .before .before .read-frame .ensures)
+
+enum-known-stands : tie.Need-enum-known-stands
+enum-known-stands c = search needs
 
 enum-told-2 : tie.Need-enum-told-2
 enum-told-2 c = search needs
 
-enum-known-spot : tie.Need-enum-known-spot
-enum-known-spot c = search needs
-
-held-at-requires : tie.Need-held-at-requires
-held-at-requires c κs = hit-numbered (c .before .before .before .search .ensures) (rw (c .before .before .before .before .before .before .before .before .before .before .f .given .1) at (c .before .before .before .before .before .before .before .before .before .before .before .before .read-frame .ensures)) (c .before .spot .given .1)
-
-enum-known-spot-2 : tie.Need-enum-known-spot-2
-enum-known-spot-2 c = search needs
-
 returns-5 : tie.Need-returns-5
-returns-5 c = has _ _ _ _ _ (has-damaged _ _ _ _ (rw (c .before .before .before .before .before .before .before .before .before .f .given .1) at (c .before .before .before .before .before .before .before .before .before .before .before .read-frame .ensures)) (c .before .before .before .before .before .before .before .known .ensures) (c .before .before .before .before .before .before .if1 .left) (c .before .before .before .before .before .fits2 .ensures) (c .before .before .before .before .if2 .left) (c .before .before .before .if3 .left) (told (c .before .before .search .ensures) _ (c .enum-told2 .given .1)))
+returns-5 c = let framed = rw (c .before .before .before .before .before .before .before .before .before .f .given .1) at (c .before .before .before .before .before .before .before .before .before .before .before .read-frame .ensures) in let stands = rw (c .enum-told2 .given .1) at (c .before .before .first-not-passed .ensures) in
+    has _ _ _ _ _ (has-damaged _ _ _ _ framed (c .before .before .before .before .before .before .before .known .ensures) (c .before .before .before .before .before .before .if1 .left) (c .before .before .before .before .before .fits2 .ensures) (c .before .before .before .before .if2 .left) (c .before .before .before .if3 .left) (stands .exact))
 
 returns-6 : tie.Need-returns-6
-returns-6 c = has _ _ _ _ _ (has-hit _ _ _ _ (rw (c .before .before .before .before .before .before .before .before .before .before .before .f .given .1) at (c .before .before .before .before .before .before .before .before .before .before .before .before .before .read-frame .ensures)) (c .before .before .before .before .before .before .before .before .before .known .ensures) (c .before .before .before .before .before .before .before .before .if1 .left) (c .before .before .before .before .before .before .before .fits2 .ensures) (c .before .before .before .before .before .before .if2 .left) (c .before .before .before .before .before .if3 .left) (told (c .before .before .before .before .search .ensures) _ (c .before .before .spot .given .1)) (c .held-at .ensures))
+returns-6 c = let framed = rw (c .before .before .before .before .before .before .before .before .before .before .before .f .given .1) at (c .before .before .before .before .before .before .before .before .before .before .before .before .before .read-frame .ensures) in let stands = rw (c .before .before .stands .given .1) at (c .before .before .before .before .first-not-passed .ensures) in
+    has _ _ _ _ _ (has-not _ _ _ _ framed (c .before .before .before .before .before .before .before .before .before .known .ensures) (c .before .before .before .before .before .before .before .before .if1 .left) (c .before .before .before .before .before .before .before .fits2 .ensures) (c .before .before .before .before .before .before .if2 .left) (c .before .before .before .before .before .if3 .left) (stands .exact) (c .if4 .taken))
+
+held-at-requires : tie.Need-held-at-requires
+held-at-requires c κs = let a = c .before .before .before .before .before .before .before .before .before .before .before .before .before .before .before .before .args in equal-numbered (a .s .now) toStop (a .key .now) (a .number) (rw (c .before .before .stands .given .1) at (c .before .before .before .before .first-not-passed .ensures)) (c .if4 .left)
 
 returns-7 : tie.Need-returns-7
-returns-7 c = has _ _ _ _ _ (has-not _ _ _ _ (rw (c .before .before .before .before .before .before .before .before .before .before .f .given .1) at (c .before .before .before .before .before .before .before .before .before .before .before .before .read-frame .ensures)) (c .before .before .before .before .before .before .before .before .known .ensures) (c .before .before .before .before .before .before .before .if1 .left) (c .before .before .before .before .before .before .fits2 .ensures) (c .before .before .before .before .before .if2 .left) (c .before .before .before .before .if3 .left) (told (c .before .before .before .search .ensures) _ (c .before .spot2 .given .1)))
+returns-7 c = let framed = rw (c .before .before .before .before .before .before .before .before .before .before .before .before .f .given .1) at (c .before .before .before .before .before .before .before .before .before .before .before .before .before .before .read-frame .ensures) in let stands = rw (c .before .before .before .stands .given .1) at (c .before .before .before .before .before .first-not-passed .ensures) in
+    has _ _ _ _ _ (has-hit _ _ _ _ framed (c .before .before .before .before .before .before .before .before .before .before .known .ensures) (c .before .before .before .before .before .before .before .before .before .if1 .left) (c .before .before .before .before .before .before .before .before .fits2 .ensures) (c .before .before .before .before .before .before .before .if2 .left) (c .before .before .before .before .before .before .if3 .left) (stands .exact) (c .before .if4 .left) (c .held-at .ensures))
 
 pub contains-spec : {M : Type 1} → statement M
 contains-spec =
@@ -68,11 +69,10 @@ contains-spec =
     fits-requires
     returns-3
     returns-4
-    search-requires
+    first-not-passed-requires
+    enum-known-stands
     enum-told-2
-    enum-known-spot
-    held-at-requires
-    enum-known-spot-2
     returns-5
     returns-6
+    held-at-requires
     returns-7)

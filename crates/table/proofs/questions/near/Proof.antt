@@ -1,5 +1,4 @@
 use mathlib.Core.Path.{_∙_}
-use Rattle.image.specs.Cuts.{all, from, above, below}
 use Rattle.table.proofs.Asking.{nears, near-header, near-at}
 use borrow.Author.Needs.{needs}
 use Rattle.table.proofs.questions.near.Statement.{statement}
@@ -15,55 +14,20 @@ enum-told : tie.Need-enum-told
 enum-told c = search needs
 
 returns : tie.Need-returns
-returns c = nears _ _ _ _ (λ i. c .before .before .before .before .shared-slice-known .given i .fits) (near-header _ _ _ (rw (c .enum-told .given .1) at (c .before .before .read-frame .ensures)))
+returns c = let known = c .before .before .before .before .shared-slice-known in nears _ _ _ _ (λ i. known .given i .fits) (near-header _ _ _ (rw (c .enum-told .given .1) at (c .before .before .read-frame .ensures)))
 
-enum-told-2 : tie.Need-enum-told-2
-enum-told-2 c = search needs
+behind-requires : tie.Need-behind-requires
+behind-requires c κs = rw (c .before .f .given .1) at (c .before .before .before .read-frame .ensures)
 
-first-entry-requires : tie.Need-first-entry-requires
-first-entry-requires c κs = (rw (c .before .before .before .f .given .1) at (c .before .before .before .before .before .read-frame .ensures))
+land-requires : tie.Need-land-requires
+land-requires c κs = search needs
 
 hit-at-requires : tie.Need-hit-at-requires
 hit-at-requires c κs = search needs
 
-enum-told-3 : tie.Need-enum-told-3
-enum-told-3 c = search needs
-
-first-not-passed-requires : tie.Need-first-not-passed-requires
-first-not-passed-requires c κs = (rw (c .before .before .before .f .given .1) at (c .before .before .before .before .before .read-frame .ensures))
-
-hit-at-requires-2 : tie.Need-hit-at-requires-2
-hit-at-requires-2 c κs = search needs
-
-enum-told-4 : tie.Need-enum-told-4
-enum-told-4 c = search needs
-
-first-not-passed-requires-2 : tie.Need-first-not-passed-requires-2
-first-not-passed-requires-2 c κs = (rw (c .before .before .before .f .given .1) at (c .before .before .before .before .before .read-frame .ensures))
-
-hit-at-requires-3 : tie.Need-hit-at-requires-3
-hit-at-requires-3 c κs = search needs
-
-enum-told-5 : tie.Need-enum-told-5
-enum-told-5 c = search needs
-
-last-before-requires : tie.Need-last-before-requires
-last-before-requires c κs = (rw (c .before .before .before .f .given .1) at (c .before .before .before .before .before .read-frame .ensures))
-
-hit-at-requires-4 : tie.Need-hit-at-requires-4
-hit-at-requires-4 c κs = search needs
-
 returns-2 : tie.Need-returns-2
-returns-2 c = rw (c .before .before .enum-told2 .given .1) (nears _ all _ _ (λ i. c .before .before .before .before .before .before .before .before .before .shared-slice-known .given i .fits) (near-at _ (rw (c .before .before .before .before .before .f .given .1) at (c .before .before .before .before .before .before .before .read-frame .ensures)) all _ (c .hit-at .ensures ∙ c .before .first-entry .ensures)))
-
-returns-3 : tie.Need-returns-3
-returns-3 c = rw (c .before .before .enum-told3 .given .1) (nears _ from _ _ (λ i. c .before .before .before .before .before .before .before .before .before .shared-slice-known .given i .fits) (near-at _ (rw (c .before .before .before .before .before .f .given .1) at (c .before .before .before .before .before .before .before .read-frame .ensures)) from _ (c .hit-at2 .ensures ∙ c .before .first-not-passed .ensures)))
-
-returns-4 : tie.Need-returns-4
-returns-4 c = rw (c .before .before .enum-told4 .given .1) (nears _ above _ _ (λ i. c .before .before .before .before .before .before .before .before .before .shared-slice-known .given i .fits) (near-at _ (rw (c .before .before .before .before .before .f .given .1) at (c .before .before .before .before .before .before .before .read-frame .ensures)) above _ (c .hit-at3 .ensures ∙ c .before .first-not-passed2 .ensures)))
-
-returns-5 : tie.Need-returns-5
-returns-5 c = rw (c .before .before .enum-told5 .given .1) (nears _ below _ _ (λ i. c .before .before .before .before .before .before .before .before .before .shared-slice-known .given i .fits) (near-at _ (rw (c .before .before .before .before .before .f .given .1) at (c .before .before .before .before .before .before .before .read-frame .ensures)) below _ (c .hit-at4 .ensures ∙ c .before .last-before .ensures)))
+returns-2 c = let known = c .before .before .before .before .before .before .before .before .shared-slice-known in let leads = c .hit-at .ensures ∙ c .before .land .ensures ∙ c .before .before .behind .ensures .exact in
+    nears _ _ _ _ (λ i. known .given i .fits) (near-at _ (rw (c .before .before .before .before .f .given .1) at (c .before .before .before .before .before .before .read-frame .ensures)) _ _ leads)
 
 pub near-spec : {M : Type 1} → statement M
 near-spec =
@@ -73,19 +37,7 @@ near-spec =
     enum-known-f
     enum-told
     returns
-    enum-told-2
-    first-entry-requires
+    behind-requires
+    land-requires
     hit-at-requires
-    enum-told-3
-    first-not-passed-requires
-    hit-at-requires-2
-    enum-told-4
-    first-not-passed-requires-2
-    hit-at-requires-3
-    enum-told-5
-    last-before-requires
-    hit-at-requires-4
-    returns-2
-    returns-3
-    returns-4
-    returns-5)
+    returns-2)

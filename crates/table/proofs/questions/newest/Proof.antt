@@ -1,6 +1,4 @@
-use Rattle.image.specs.Search.{hit, ends}
 use Rattle.table.proofs.Asking.{tells-newest, newest-header, newest-damaged, newest-said}
-use Rattle.table.proofs.Lookups.{told, hit-in, after-in}
 use borrow.Author.Needs.{needs}
 use Rattle.table.proofs.questions.newest.Statement.{statement}
 use Rattle.table.proofs.questions.newest.Tie as tie
@@ -15,40 +13,30 @@ enum-told : tie.Need-enum-told
 enum-told c = search needs
 
 returns : tie.Need-returns
-returns c = tells-newest _ _ _ _ (λ i. c .before .before .before .before .shared-slice-known .given i .fits) (newest-header _ _ _ (rw (c .enum-told .given .1) at (c .before .before .read-frame .ensures)))
+returns c = let known = c .before .before .before .before .shared-slice-known in tells-newest _ _ _ _ (λ i. known .given i .fits) (newest-header _ _ _ (rw (c .enum-told .given .1) at (c .before .before .read-frame .ensures)))
 
-search-requires : tie.Need-search-requires
-search-requires c κs = (rw (c .before .f .given .1) at (c .before .before .before .read-frame .ensures))
+first-not-passed-requires : tie.Need-first-not-passed-requires
+first-not-passed-requires c κs = rw (c .before .f .given .1) at (c .before .before .before .read-frame .ensures)
+
+enum-known-stands : tie.Need-enum-known-stands
+enum-known-stands c = search needs
 
 enum-told-2 : tie.Need-enum-told-2
 enum-told-2 c = search needs
 
-enum-known-spot : tie.Need-enum-known-spot
-enum-known-spot c = search needs
+returns-2 : tie.Need-returns-2
+returns-2 c = let known = c .before .before .before .before .before .before .before .before .shared-slice-known in let stands = rw (c .enum-told2 .given .1) at (c .before .before .first-not-passed .ensures) in
+    tells-newest _ _ _ _ (λ i. known .given i .fits) (newest-damaged _ (rw (c .before .before .before .before .f .given .1) at (c .before .before .before .before .before .before .read-frame .ensures)) _ _ (stands .exact))
 
 said-at-requires : tie.Need-said-at-requires
-said-at-requires c κs = hit-in (c .before .before .before .search .ensures) (rw (c .before .before .before .before .before .f .given .1) at (c .before .before .before .before .before .before .before .read-frame .ensures)) (c .before .spot .given .1)
+said-at-requires c κs = (rw (c .before .stands .given .1) at (c .before .before .before .first-not-passed .ensures)) .inside
 
 with-node-requires : tie.Need-with-node-requires
 with-node-requires c κs = search needs
 
-enum-known-spot-2 : tie.Need-enum-known-spot-2
-enum-known-spot-2 c = search needs
-
-said-at-requires-2 : tie.Need-said-at-requires-2
-said-at-requires-2 c κs = after-in (c .before .before .before .search .ensures) (rw (c .before .before .before .before .before .f .given .1) at (c .before .before .before .before .before .before .before .read-frame .ensures)) (c .before .spot2 .given .1)
-
-with-node-requires-2 : tie.Need-with-node-requires-2
-with-node-requires-2 c κs = search needs
-
-returns-2 : tie.Need-returns-2
-returns-2 c = tells-newest _ _ _ _ (λ i. c .before .before .before .before .before .before .before .before .shared-slice-known .given i .fits) (newest-damaged _ (rw (c .before .before .before .before .f .given .1) at (c .before .before .before .before .before .before .read-frame .ensures)) _ _ (told (c .before .before .search .ensures) _ (c .enum-told2 .given .1)))
-
 returns-3 : tie.Need-returns-3
-returns-3 c = tells-newest _ _ _ _ (λ i. c .before .before .before .before .before .before .before .before .before .before .before .shared-slice-known .given i .fits) (newest-said _ (rw (c .before .before .before .before .before .before .before .f .given .1) at (c .before .before .before .before .before .before .before .before .before .read-frame .ensures)) _ _ (hit _ _) (told (c .before .before .before .before .before .search .ensures) _ (c .before .before .before .spot .given .1)) (c .before .said-at .ensures) (c .with-node .ensures))
-
-returns-4 : tie.Need-returns-4
-returns-4 c = tells-newest _ _ _ _ (λ i. c .before .before .before .before .before .before .before .before .before .before .before .shared-slice-known .given i .fits) (newest-said _ (rw (c .before .before .before .before .before .before .before .f .given .1) at (c .before .before .before .before .before .before .before .before .before .read-frame .ensures)) _ _ (ends _ _ _ _) (told (c .before .before .before .before .before .search .ensures) _ (c .before .before .before .spot2 .given .1)) (c .before .said-at2 .ensures) (c .with-node2 .ensures))
+returns-3 c = let known = c .before .before .before .before .before .before .before .before .before .before .before .shared-slice-known in let stands = rw (c .before .before .before .stands .given .1) at (c .before .before .before .before .before .first-not-passed .ensures) in
+    tells-newest _ _ _ _ (λ i. known .given i .fits) (newest-said _ (rw (c .before .before .before .before .before .before .before .f .given .1) at (c .before .before .before .before .before .before .before .before .before .read-frame .ensures)) _ _ (stands .exact) (c .before .said-at .ensures) (c .with-node .ensures))
 
 pub newest-spec : {M : Type 1} → statement M
 newest-spec =
@@ -58,14 +46,10 @@ newest-spec =
     enum-known-f
     enum-told
     returns
-    search-requires
+    first-not-passed-requires
+    enum-known-stands
     enum-told-2
-    enum-known-spot
+    returns-2
     said-at-requires
     with-node-requires
-    enum-known-spot-2
-    said-at-requires-2
-    with-node-requires-2
-    returns-2
-    returns-3
-    returns-4)
+    returns-3)
