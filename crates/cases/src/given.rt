@@ -40,11 +40,17 @@ fn wide(x: u8) -> u64
 fn digit(b: u8) -> u64
     ensures { λ r. ⌜ r ≤ 16 ⌝ }
 {
-    match b {
-        b'0'..=b'9' => wide(b) - 48,
-        b'a'..=b'f' => wide(b) - 87,
-        _ => 16,
+    let x = wide(b);
+    if x < 48 {
+        return 16;
     }
+    if x < 58 {
+        return x - 48;
+    }
+    if x < 97 {
+        return 16;
+    }
+    if x < 103 { x - 87 } else { 16 }
 }
 
 // A number with one more decimal digit, if it still fits.
@@ -103,24 +109,23 @@ fn pair(high: u64, low: u64) -> u64 {
 
 // Puts bytes of two digits each at the start of out.
 pub fn hexes(s: &[u8], out: &mut [u8]) -> Taken {
-    let mut at = 0;
+    let n = s.len() / 2;
+    if n + n != s.len() {
+        return took(false, 0);
+    }
+    if n > out.len() {
+        return took(false, 0);
+    }
     let mut i = 0;
-    while i < s.len() {
-        let b = pair(digit(byte(s, i)), digit(byte(rest(s, i), 1)));
+    while i < n {
+        let b = pair(digit(byte(s, i + i)), digit(byte(s, i + i + 1)));
         if b > 255 {
             return took(false, 0);
         }
-        let next = put::byte(out, at, b as u8);
-        if next == at {
-            return took(false, 0);
-        }
-        at = next;
+        put::byte(out, i, b as u8);
         i += 1;
-        if i < s.len() {
-            i += 1;
-        }
     }
-    took(true, at)
+    took(true, n)
 }
 
 // Puts one byte so many times at the start of out.

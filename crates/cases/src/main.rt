@@ -16,6 +16,8 @@ mod text; // text.rt: parts and words of a text
 mod world; // world.rt: what a run carries from line to line
 mod writes; // writes.rt: what writes to a table's memory
 
+ghost use Prim.Native.Nat.{_<_};
+ghost use lib.ListN.{length};
 use crate::text::arrow;
 use crate::text::begins;
 use crate::text::byte;
@@ -93,22 +95,25 @@ fn run_line(
     after
 }
 
+// Where the line behind the one at a place begins.
+fn behind(s: &[u8], at: usize) -> usize
+    requires { ⌜ at < length (now s) ⌝ }
+    ensures { λ r. ⌜ at < r ⌝ }
+{
+    let end = find(s, at, s.len(), b'\n');
+    end + 1
+}
+
 // Runs the lines of a text.
-fn run(
-    text: &[u8],
-    first: &mut [u8],
-    second: &mut [u8],
-    before: &mut [u8],
-    counts: &mut [u64; 10],
-) {
+fn run(all: &[u8], first: &mut [u8], second: &mut [u8], before: &mut [u8], counts: &mut [u64; 10]) {
     let mut w = World::new();
     let mut n = 0;
     let mut at = 0;
-    while at < text.len() {
-        let end = find(text, at, text.len(), b'\n');
+    while at < all.len() {
+        let line = text::before(rest(all, at), b'\n');
         n += 1;
-        w = run_line(n, &text[at..end], first, second, before, w, counts);
-        at = end + 1;
+        w = run_line(n, line, first, second, before, w, counts);
+        at = behind(all, at);
     }
 }
 

@@ -1,7 +1,6 @@
 // Writing into a line or a memory, from a place on and as far as it has room; each function answers the place behind what it wrote.
-ghost use Prim.Native.Nat.{_≤_};
-ghost use lib.ListN.{length};
 use crate::text::byte as byte_of;
+use crate::text::part;
 
 // More equal bytes than this are written as one letter so many times.
 const LONG: usize = 16;
@@ -55,19 +54,23 @@ fn hex_byte(out: &mut [u8], at: usize, b: u8) -> usize {
     text(out, at, &digits[..k])
 }
 
+// How many blanks stand before the byte with this number, in groups.
+fn gap(i: usize, group: usize) -> usize {
+    if i < 1 {
+        return 0;
+    }
+    if group < 1 {
+        return 0;
+    }
+    if i % group == 0 { 1 } else { 0 }
+}
+
 // Bytes in hexadecimal, in groups with a blank between two of them.
 pub fn hex(out: &mut [u8], at: usize, s: &[u8], group: usize) -> usize {
     let mut end = at;
-    let mut left = group;
     let mut i = 0;
     while i < s.len() {
-        if left < 1 {
-            end = byte(out, end, b' ');
-            left = group;
-        }
-        if left > 0 {
-            left -= 1;
-        }
+        end = text(out, end, part(b" ", 0, gap(i, group)));
         end = hex_byte(out, end, s[i]);
         i += 1;
     }

@@ -35,9 +35,11 @@ impl World {
 
     // Every cursor nowhere.
     pub fn cursors_away(mut self) -> World {
-        self.at = BavoCursor { table: 0, node: 0 };
-        self.first_at = BavoEntryCursor { on: 0, node: 0 };
-        self.second_at = BavoEntryCursor { on: 0, node: 0 };
+        let at = BavoCursor { table: 0, node: 0 };
+        let entry_at = BavoEntryCursor { on: 0, node: 0 };
+        self.at = at;
+        self.first_at = entry_at;
+        self.second_at = entry_at;
         self
     }
 
@@ -83,16 +85,18 @@ impl World {
     }
 
     pub fn with_cursor(mut self, table: u32, node: usize) -> World {
-        self.at = BavoCursor { table, node };
+        let at = BavoCursor { table, node };
+        self.at = at;
         self
     }
 
     // With the entry cursor of a table.
     pub fn with_entry_cursor(mut self, second: bool, on: u32, node: usize) -> World {
+        let at = BavoEntryCursor { on, node };
         if second {
-            self.second_at = BavoEntryCursor { on, node };
+            self.second_at = at;
         } else {
-            self.first_at = BavoEntryCursor { on, node };
+            self.first_at = at;
         }
         self
     }
