@@ -1,12 +1,11 @@
-//! LevelDB's answers as records.
+//! LevelDB's answers as lines.
 
 use crate::gen::Shape;
 use crate::leveldb::Database;
 use crate::model::Entry;
-use crate::records::{short_key, Writer, FIRST, NEXT, PREV, SEEK};
+use crate::records::{short_key, Writer, LEVELDB, SET_UP};
 use crate::rng::Rng;
-
-const LEVELDB: u8 = 3;
+use crate::words::bytes;
 
 /// A case: writes numbered 1, 2, 3, split between two tables; then scans, seeks and lookups at some snapshots.
 pub fn case(writer: &mut Writer, rng: &mut Rng, name: u64) {
@@ -32,7 +31,7 @@ pub fn case(writer: &mut Writer, rng: &mut Rng, name: u64) {
             value,
         };
         assert!(
-            writer.add(0, usize::from(!to_first), entry, rng.tower()),
+            writer.add(SET_UP, usize::from(!to_first), entry, rng.tower()),
             "room for a few entries"
         );
         views.push(database.view());
@@ -48,11 +47,12 @@ pub fn case(writer: &mut Writer, rng: &mut Rng, name: u64) {
             match rng.one_in(2) {
                 true => {
                     iter.first();
-                    writer.moved(LEVELDB, FIRST, &[], snapshot, iter.row());
+                    writer.moved(LEVELDB, &format!("first @{snapshot}"), iter.row());
                 }
                 false => {
                     iter.seek(&key);
-                    writer.moved(LEVELDB, SEEK, &key, snapshot, iter.row());
+                    let call = format!("seek {}@{snapshot}", bytes(&key));
+                    writer.moved(LEVELDB, &call, iter.row());
                 }
             }
             // Forward for some rows, then backward; only while there is a row.
@@ -65,16 +65,11 @@ pub fn case(writer: &mut Writer, rng: &mut Rng, name: u64) {
                     true => iter.next(),
                     false => iter.prev(),
                 }
-                writer.moved(
-                    LEVELDB,
-                    if step < turn { NEXT } else { PREV },
-                    &[],
-                    snapshot,
-                    iter.row(),
-                );
+                let name = if step < turn { "next" } else { "prev" };
+                writer.moved(LEVELDB, &format!("{name} @{snapshot}"), iter.row());
             }
             if newer_first {
-                writer.pair_get(LEVELDB, &key, snapshot, view.get(&key).as_deref());
+                writer.row(LEVELDB, &key, snapshot, view.get(&key).as_deref());
             }
         }
     }

@@ -1,14 +1,15 @@
-//! The recorder: answers of each oracle to a file, and back.
+//! The recorder: answers of each oracle to a text, and back.
 
 use crate::args::Args;
 use crate::record_model;
-use crate::records::{Writer, ORACLES};
+use crate::records::{Writer, HEADING, SOURCES};
 use crate::replay::replay;
 use crate::rng::Rng;
 use std::process::exit;
 
 #[cfg(leveldb)]
 fn leveldb_cases(writer: &mut Writer, rng: &mut Rng) {
+    writer.line(&format!("\n{HEADING} of LevelDB 1.23"));
     for case in 0..60 {
         crate::record_leveldb::case(writer, rng, case);
     }
@@ -19,20 +20,30 @@ fn leveldb_cases(_: &mut Writer, _: &mut Rng) {
     println!("leveldb: SKIPPED, it was not there when this was built (libleveldb-dev)");
 }
 
-fn say(counts: [usize; 4]) {
-    for (name, count) in ORACLES.iter().zip(counts) {
-        println!("    {name}: {count} records");
+fn say(counts: [usize; 5]) {
+    for (name, count) in SOURCES.iter().zip(counts) {
+        println!("    {name}: {count} answers");
     }
+}
+
+fn read(file: &str) -> String {
+    std::fs::read_to_string(file).unwrap_or_default()
+}
+
+/// The part of a text that is written by hand: all above the recorded answers.
+fn by_hand(text: &str) -> String {
+    let lines = text.lines().take_while(|line| !line.starts_with(HEADING));
+    let above: Vec<&str> = lines.collect();
+    above.join("\n").trim_end().into()
 }
 
 /// Records, or replays. `crate_cases` adds the crate's answers.
 pub fn main(note: &str, crate_cases: impl FnOnce(&mut Writer, &mut Rng)) {
     let args = Args::new();
     if let Some(file) = args.text("--replay") {
-        let bytes = std::fs::read(file).unwrap_or_default();
-        match replay(&bytes) {
+        match replay(&read(file)) {
             Ok(counts) => {
-                println!("{file}: every record holds");
+                println!("{file}: every answer holds");
                 say(counts);
             }
             Err(words) => {
@@ -49,6 +60,7 @@ pub fn main(note: &str, crate_cases: impl FnOnce(&mut Writer, &mut Rng)) {
     let seed = args.seed();
     println!("seed {seed}");
     let (mut writer, mut rng) = (Writer::default(), Rng::new(seed));
+    writer.line(&format!("{HEADING} of the model"));
     for _ in 0..60 {
         record_model::case(&mut writer, &mut rng);
     }
@@ -57,15 +69,20 @@ pub fn main(note: &str, crate_cases: impl FnOnce(&mut Writer, &mut Rng)) {
     }
     crate_cases(&mut writer, &mut rng);
     leveldb_cases(&mut writer, &mut rng);
-    let (bytes, counts) = writer.finish();
-    if let Err(error) = std::fs::write(&file, &bytes) {
+    let (recorded, counts) = writer.finish();
+    let mut text = by_hand(&read(&file));
+    if !text.is_empty() {
+        text += "\n\n";
+    }
+    text += &recorded;
+    if let Err(error) = std::fs::write(&file, &text) {
         eprintln!("{file}: {error}");
         exit(1);
     }
-    println!("{file}: {} bytes", bytes.len());
+    println!("{file}: {} bytes", text.len());
     say(counts);
-    match replay(&bytes) {
-        Ok(_) => println!("the library replays every record"),
+    match replay(&text) {
+        Ok(_) => println!("the library replays every answer"),
         Err(words) => {
             println!("{words}");
             exit(1);

@@ -1,4 +1,4 @@
-// Writes answers of the model, and of LevelDB where it is installed, as records; or replays a file of them.
+// Writes answers of the model, and of LevelDB where it is installed, as lines of a text; or replays one.
 //   record FILE [--seed N|clock]        record --replay FILE
 // With the crate's answers too: oracle/run record FILE.
 fn main() {

@@ -1,0 +1,101 @@
+// What a line asks for: its first word, which has a number here, and how many words there are.
+use crate::text::blanks;
+use crate::text::byte;
+use crate::text::index;
+use crate::text::word;
+
+pub const CASE: usize = 0;
+
+pub const LEND: usize = 1;
+
+pub const SET: usize = 2;
+
+pub const BY: usize = 3;
+
+pub const CURSOR: usize = 4;
+
+pub const ENTRY_CURSOR: usize = 5;
+
+pub const FRESH: usize = 6;
+
+pub const ADD: usize = 7;
+
+pub const CHANGED: usize = 8;
+
+pub const BYTES: usize = 9;
+
+pub const CHECK: usize = 10;
+
+pub const GET: usize = 11;
+
+pub const CONTAINS: usize = 12;
+
+pub const VALUE: usize = 13;
+
+pub const VALUE_REFUSAL: usize = 14;
+
+pub const ENTRY_FIRST: usize = 15;
+
+pub const ENTRY_SEEK: usize = 16;
+
+pub const ENTRY_NEXT: usize = 17;
+
+pub const ENTRY_PREV: usize = 18;
+
+pub const ENTRY_KEY: usize = 19;
+
+pub const ENTRY_VALUE: usize = 20;
+
+pub const ENTRY_NUMBER: usize = 21;
+
+pub const ENTRY_KIND: usize = 22;
+
+pub const ENTRY_REFUSAL: usize = 23;
+
+pub const PAIR_GET: usize = 24;
+
+pub const ROW: usize = 25;
+
+pub const FIRST: usize = 26;
+
+pub const SEEK: usize = 27;
+
+pub const NEXT: usize = 28;
+
+pub const PREV: usize = 29;
+
+pub const ROW_KEY: usize = 30;
+
+pub const ROW_VALUE: usize = 31;
+
+pub const ROW_REFUSAL: usize = 32;
+
+pub const UNKNOWN: usize = 33;
+
+// The number of a word that a line may begin with.
+fn named(s: &[u8]) -> usize {
+    let names =
+        b"case lend set by cursor entry_cursor fresh add changed bytes check get contains value value_refusal \
+        entry_first entry_seek entry_next entry_prev entry_key entry_value entry_number entry_kind entry_refusal \
+        pair_get row first seek next prev row_key row_value row_refusal";
+    index(names, UNKNOWN, s)
+}
+
+// How many words stand behind it, as a digit; 0 where it is none.
+fn arguments(op: usize) -> u8 {
+    byte(b"233123130312222121111111111111000", op)
+}
+
+// What a call is, by its first word, if as many words stand behind it as there should.
+pub fn of(call: &[u8]) -> usize {
+    let op = named(word(call, 0));
+    let digit = arguments(op) as usize;
+    let n = blanks(call);
+    if n > 9 {
+        return UNKNOWN;
+    }
+    if n + 48 != digit {
+        return UNKNOWN;
+    }
+    op
+}

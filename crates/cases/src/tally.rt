@@ -1,0 +1,74 @@
+// How many answers there were, and how many were as expected: two counts for each source, in the order of their names.
+ghost use Prim.Native.Nat.{_≤_};
+use crate::text::index;
+
+// How many sources there are: by number document 01, the set-up of recorded cases, the model, the crate and LevelDB.
+pub const SOURCES: usize = 5;
+
+// The number of a source.
+pub fn source(name: &[u8]) -> usize {
+    index(b"document set-up model crate leveldb", SOURCES, name)
+}
+
+// Counts one more.
+fn count(counts: &mut [u64; 10], i: usize) {
+    if i > 9 {
+        return;
+    }
+    if counts[i] < u64::MAX {
+        counts[i] += 1;
+    }
+}
+
+// Counts an answer of a source.
+pub fn note(counts: &mut [u64; 10], by: usize, right: bool) {
+    if by >= SOURCES {
+        return;
+    }
+    count(counts, by + by);
+    if right {
+        count(counts, by + by + 1);
+    }
+}
+
+// Writes how many of how many.
+fn line(asked: u64, right: u64, of: &[u8]) {
+    io::print_decimal(1, right);
+    io::write_all(1, b" of ");
+    io::print_decimal(1, asked);
+    io::write_all(1, of);
+}
+
+// Writes what is left to say, and whether every answer of a source was as expected.
+fn all_right(counts: &[u64; 10]) -> bool {
+    if counts[0] != counts[1] {
+        return false;
+    }
+    if counts[2] != counts[3] {
+        return false;
+    }
+    if counts[4] != counts[5] {
+        return false;
+    }
+    if counts[6] != counts[7] {
+        return false;
+    }
+    counts[8] == counts[9]
+}
+
+// Writes the counts, and last whether all is as expected.
+pub fn show(counts: &[u64; 10]) {
+    line(counts[0], counts[1], b" answers by document 01\n");
+    line(counts[2], counts[3], b" set-up calls of recorded cases\n");
+    line(counts[4], counts[5], b" answers of the model\n");
+    line(
+        counts[6],
+        counts[7],
+        b" answers of the crate rusty-leveldb\n",
+    );
+    line(counts[8], counts[9], b" answers of LevelDB\n");
+    if !all_right(counts) {
+        io::write_all(1, b"NOT ");
+    }
+    io::write_all(1, b"all as expected\n");
+}
