@@ -1,6 +1,6 @@
 // What stands at the visible cursor: key and value of the node at its place. A span says where that is: which of the two lent images,
 // offset and length; a view is the part that the span names, uncopied. Spans serve callers to whom no reference can be handed.
-// No snapshot is asked for, so additions never change what a stored cursor shows.
+// No snapshot is asked for, so in sound tables additions never change what a stored cursor shows.
 ghost use mathlib.Core.Path.{_≡_};
 ghost use Rattle.image.specs.EntryMoves.{keyView, valueView};
 ghost use Rattle.cursor.specs.RowSpans.{rowSpanAs, spanIn, partBytes, RowSpanLies, SpansAt, RowSpans};

@@ -141,6 +141,7 @@ pub(crate) enum Ordering {
 }
 
 impl Ordering {
+    // Whether the first side is less.
     pub(crate) fn is_less(self) -> bool {
         match self {
             Ordering::Less => true,
@@ -149,6 +150,7 @@ impl Ordering {
         }
     }
 
+    // Whether the two are equal.
     pub(crate) fn is_equal(self) -> bool {
         match self {
             Ordering::Less => false,

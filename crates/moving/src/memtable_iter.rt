@@ -1,6 +1,6 @@
 // Made by tools/moving from crates/table/src/memtable_iter.rt: its bodies, other contracts.
 // The entry cursor: over all entries of one table in their order, deletions included; and what stands at it.
-// A cursor is a node number, not a place in memory: additions never change what it shows. Nothing here writes.
+// A cursor is a node number, not a place in memory: in a sound table additions never change what it shows. Nothing here writes.
 ghost use lib.ListN.{length};
 ghost use Rattle.moving.specs.Entries.{KeyInside};
 ghost use Rattle.moving.specs.Nodes.{InTable, Numbered};

@@ -1,7 +1,7 @@
 // Made by tools/moving from crates/cursor/src/row_views.rt: its bodies, other contracts.
 // What stands at the visible cursor: key and value of the node at its place. A span says where that is: which of the two lent images,
 // offset and length; a view is the part that the span names, uncopied. Spans serve callers to whom no reference can be handed.
-// No snapshot is asked for, so additions never change what a stored cursor shows.
+// No snapshot is asked for, so in sound tables additions never change what a stored cursor shows.
 ghost use Prim.Native.Nat.{ℕ};
 ghost use lib.ListN.{length};
 ghost use Rattle.moving.specs.Answers.{SpanFits};

@@ -158,6 +158,7 @@ pub(crate) enum Ordering {
 }
 
 impl Ordering {
+    // Whether the first side is less.
     pub(crate) fn is_less(self) -> bool
         ensures { λ r. ⌜ r ≡ isLess (ordOf self) ⌝ }
     {
@@ -168,6 +169,7 @@ impl Ordering {
         }
     }
 
+    // Whether the two are equal.
     pub(crate) fn is_equal(self) -> bool
         ensures { λ r. ⌜ r ≡ isEqual (ordOf self) ⌝ }
     {

@@ -1,5 +1,5 @@
 // The entry cursor: over all entries of one table in their order, deletions included; and what stands at it.
-// A cursor is a node number, not a place in memory: additions never change what it shows. Nothing here writes.
+// A cursor is a node number, not a place in memory: in a sound table additions never change what it shows. Nothing here writes.
 ghost use mathlib.Core.Path.{_≡_};
 ghost use Prim.Native.Nat.{ℕ, _+_, _≤_};
 ghost use lib.ListN.{length};
