@@ -1,7 +1,16 @@
 use crate::raw;
 use crate::refusal::{unless_refused, Refusal};
-use crate::table::Kind;
 use std::iter::FusedIterator;
+
+/// The type of an entry.
+#[derive(Clone, Copy, Debug, PartialEq, Eq, Hash)]
+#[repr(u8)]
+pub enum Kind {
+    /// The key is gone from this number on.
+    Deletion = 0,
+    /// The key has a value from this number on.
+    Value = 1,
+}
 
 /// An entry of a table.
 #[derive(Clone, Copy, Debug, PartialEq, Eq)]

@@ -36,10 +36,10 @@ mod table;
 
 pub mod raw;
 
-pub use entries::{Entries, Entry, EntryCursor};
+pub use entries::{Entries, Entry, EntryCursor, Kind};
 pub use refusal::Refusal;
 pub use snapshot::{Cursor, Place, Row, Rows, Snapshot};
-pub use table::{height_for, Kind, Lookup, Table};
+pub use table::{height_for, Lookup, Table};
 
 /// The least number of bytes of an image.
 pub const MIN_IMAGE: usize = 64;

@@ -1,17 +1,7 @@
-use crate::entries::{Entries, EntryCursor};
+use crate::entries::{Entries, EntryCursor, Kind};
 use crate::raw;
 use crate::refusal::{unless_refused, Refusal};
 use crate::MAX_HEIGHT;
-
-/// The type of an entry.
-#[derive(Clone, Copy, Debug, PartialEq, Eq, Hash)]
-#[repr(u8)]
-pub enum Kind {
-    /// The key is gone from this number on.
-    Deletion = 0,
-    /// The key has a value from this number on.
-    Value = 1,
-}
 
 /// What a lookup in one table says, with the looks that it took: links examined, at most the table's count plus twelve.
 #[derive(Clone, Copy, Debug, PartialEq, Eq)]

@@ -1,11 +1,10 @@
 //! Benchmarks: the same inputs for every contestant, in one run, on one pinned core; medians and ratios as a table.
 
 use crate::args::Args;
-use crate::clocks::processor_time;
 use crate::rng::Rng;
+use crate::timing::Outcome;
 use std::collections::BTreeMap;
 use std::process::Command;
-use std::time::Duration;
 
 pub struct Item {
     pub key: Vec<u8>,
@@ -49,26 +48,6 @@ pub const TASKS: [(Task, &str); 8] = [
     (Task::SeekNext, "seek and 10 next"),
     (Task::Check, "check, two tables"),
 ];
-
-/// How long a task took, for how many operations, and a sum over its answers, which is the same for all who answer alike.
-pub struct Outcome {
-    pub took: Duration,
-    pub operations: u64,
-    pub sum: u64,
-}
-
-/// Times a closure that answers how many operations it did and a sum over its answers.
-pub fn timed(run: impl FnOnce() -> (u64, u64)) -> Option<Outcome> {
-    let before = processor_time();
-    let (operations, sum) = std::hint::black_box(run());
-    let took = processor_time().saturating_sub(before);
-    Some(Outcome { took, operations, sum })
-}
-
-pub fn row_sum(key: &[u8], value: &[u8]) -> u64 {
-    let ends = |bytes: &[u8]| u64::from(bytes.last().copied().unwrap_or(7));
-    1 + 3 * key.len() as u64 + 5 * value.len() as u64 + 11 * ends(key) + 13 * ends(value)
-}
 
 pub trait Contestant {
     fn name(&self) -> &'static str;

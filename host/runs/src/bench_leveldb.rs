@@ -1,8 +1,8 @@
 //! LevelDB in the benchmarks.
 
-use crate::bench::{row_sum, timed, Contestant, Input, Item, Outcome, Task};
-use crate::contestants::{again, each, value_sum};
+use crate::bench::{Contestant, Input, Item, Task};
 use crate::leveldb::{Database, View};
+use crate::timing::{again, each, row_sum, timed, value_sum, Outcome};
 
 /// LevelDB: one database with the first table's entries, and one with all of them. Its addition writes a log too.
 #[derive(Default)]

@@ -1,6 +1,7 @@
 //! Who runs in the benchmarks: the library, a BTreeMap, and LevelDB where it is installed.
 
-use crate::bench::{input, row_sum, timed, Contestant, Input, Outcome, Task};
+use crate::bench::{input, Contestant, Input, Task};
+use crate::timing::{again, each, row_sum, timed, value_sum, Outcome};
 use bavolinesk::raw::{self, Cursor};
 use std::collections::BTreeMap;
 
@@ -50,11 +51,6 @@ impl Library {
         }
         (rows, sum)
     }
-}
-
-/// A sum over a lookup's answer.
-pub fn value_sum(value: Option<&[u8]>) -> u64 {
-    value.map_or(1, |value| row_sum(&[], value))
 }
 
 impl Contestant for Library {
@@ -111,18 +107,6 @@ impl Contestant for Library {
             Task::Add => (0, 0),
         })
     }
-}
-
-/// Asks for each of a list; how many, and the sum of the answers.
-pub fn each<T>(list: &[T], ask: impl FnMut(&T) -> u64) -> (u64, u64) {
-    (list.len() as u64, list.iter().map(ask).sum())
-}
-
-/// Does a task again and again.
-pub fn again(times: u64, mut task: impl FnMut() -> (u64, u64)) -> (u64, u64) {
-    (0..times)
-        .map(|_| task())
-        .fold((0, 0), |sum, one| (sum.0 + one.0, sum.1 + one.1))
 }
 
 /// The looks of a lookup in one table: mean, most, and the bound.

@@ -38,4 +38,5 @@ pub mod script;
 mod shared_answers;
 pub mod shared_calls;
 pub mod shared_world;
+pub mod timing;
 pub mod traps;

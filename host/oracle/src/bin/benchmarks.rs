@@ -2,8 +2,9 @@
 //   benchmarks [--seed N|clock] [--rounds N]
 use oracle::DB::{build_memtable_key, LdbIterator, MemtableKeyCmp, SkipMap, ValueType};
 use oracle::{cmp, Cursors, Memory};
-use runs::bench::{row_sum, timed, Contestant, Input, Item, Outcome, Task};
-use runs::contestants::{again, all, each, looks, most, value_sum};
+use runs::bench::{Contestant, Input, Item, Task};
+use runs::contestants::{all, looks, most};
+use runs::timing::{again, each, row_sum, timed, value_sum, Outcome};
 use std::rc::Rc;
 
 struct Crate {
