@@ -1,18 +1,18 @@
 -- What a cursor of C may be: any two numbers. One out of range is refused with 10, and a refused move hands back what it was handed.
 use Prim.Native.Nat.{ℕ, _<_}
 use native.Mathlib.Omega.{arith}
-use mathlib.Core.Path.{_≡_, refl, sym, ap, _∙_}
+use mathlib.Core.Path.{_≡_, refl, ap, _∙_}
 use mathlib.Core.List.{List}
-use mathlib.Core.Bool.{Bool, true, false}
+use mathlib.Core.Bool.{true}
 use borrow.Author.Tests.{ne-eqb}
 use Rattle.rule.specs.Moves.{Move}
 use Rattle.image.specs.Sound.{headerHolds}
-use Rattle.image.specs.Refusals.{Answer, refused, given, numberOf, noNode}
-use Rattle.image.specs.EntryMoves.{Cursor, on, EntryMove, entryMove}
+use Rattle.image.specs.Refusals.{refused, numberOf, noNode}
+use Rattle.image.specs.EntryMoves.{on, EntryMove, entryMove}
 use Rattle.table.specs.Refusals.{refusalIs}
 use Rattle.table.specs.MemtableIter.{movedAs, Moves as EntryMoves}
 use Rattle.cursor.specs.Places.{place}
-use Rattle.cursor.specs.Moves.{asked, keyGiven, MovedIs, movedAs as visibleAs, RefusedWith, Moves}
+use Rattle.cursor.specs.Moves.{asked, MovedIs, movedAs as visibleAs, RefusedWith, Moves}
 use Rattle.capi.specs.Plain.{Plainly}
 use Rattle.capi.specs.EntryIter.{entryCursorOf, plainEntryMoved}
 use Rattle.capi.specs.DbIter.{cursorOf, plainMoved}

@@ -2,8 +2,8 @@
 -- view shows and lies in its image, and its refusal is the one that the companion gives.
 use Prim.Native.Nat.{ℕ, _+_, _≤_}
 use native.Mathlib.Omega.{arith}
-use mathlib.Core.Path.{_≡_, refl, sym, ap, _∙_}
-use mathlib.Core.List.{List, []}
+use mathlib.Core.Path.{_≡_, refl, ap, _∙_}
+use mathlib.Core.List.{List}
 use lib.ListN.{length}
 use Rattle.rule.specs.Lists.{Maybe, none, some}
 use Rattle.image.specs.Words.{part}
@@ -17,7 +17,7 @@ use Rattle.cursor.specs.RowSpans.{PartIn, rowSpanAs, View, rowSpan, partBytes, 
 use Rattle.cursor.proofs.RowSpans as rows
 use Rattle.capi.specs.Plain.{Plainly}
 use Rattle.capi.specs.Memtable.{plainView}
-use Rattle.capi.specs.DbIter.{sideNumber, cursorOf}
+use Rattle.capi.specs.DbIter.{sideNumber}
 use Rattle.capi.specs.RowViews.{plainRowView, numbered}
 use Rattle.table.specs.declared.entry_views.SpanOn.{SpanOn}
 use Rattle.table.specs.declared.entry_views.SpanOn.the-variants as span

@@ -1,13 +1,12 @@
 -- Demand 3, in the words of 00-demands.md: what a host sees depends on the entries up to its snapshot alone.
-use Prim.Native.Nat.{ℕ, _≤_, _<_}
+use Prim.Native.Nat.{ℕ, _≤_}
 use mathlib.Core.Path.{_≡_, refl, sym, ap, _∙_}
-use mathlib.Core.Logic.{_↔_}
-use mathlib.Core.List.{List, [], _∷_, _++_, List·Memᴰ, nil≢cons, cons≢nil, head-eq-of-cons-eq, tail-eq-of-cons-eq}
+use mathlib.Core.List.{List, [], _∷_, _++_, nil≢cons, cons≢nil, head-eq-of-cons-eq, tail-eq-of-cons-eq}
 use mathlib.Core.Bool.{Bool, true, false}
 use lib.ListN.{length}
 use lib.Dec.{leb, eqb}
 use borrow.Author.Tests.{leb-true, leb-false}
-use Rattle.rule.specs.Lists.{cond, Maybe, none, some, All}
+use Rattle.rule.specs.Lists.{cond, Maybe, none, some}
 use Rattle.rule.specs.Entries.{Entry, Agree, Single, valueKind}
 use Rattle.rule.specs.Rows.{newest}
 use Rattle.rule.specs.Moves.{Move, Row}

@@ -16,18 +16,17 @@ use Rattle.image.specs.Limits.{maxKey, maxNumber}
 use Rattle.image.specs.Nodes.{count}
 use Rattle.image.specs.Sound.{Sound}
 use Rattle.image.specs.Refusals as is
-use Rattle.image.specs.Refusals.{Answer, given, refused, demand, badNumber, longKey, numberOf}
+use Rattle.image.specs.Refusals.{Answer, given, refused, demand, badNumber, longKey}
 use Rattle.image.proofs.Sound.{header-complete}
 use Rattle.table.specs.Growth.{Additions}
 use Rattle.table.proofs.Growth.{begun-sound, additions-grow}
 use Rattle.cursor.specs.Places.{imageOf, entryAt, CursorIn, inside}
-use Rattle.cursor.specs.Moves.{asked, keyGiven, startKey, MovedIs, movedAs, LeadsTo, RefusedWith, Moves}
+use Rattle.cursor.specs.Moves.{asked, keyGiven, startKey, MovedIs, movedAs, LeadsTo, Moves}
 use Rattle.cursor.specs.Rows.{valueIn}
 use Rattle.cursor.specs.Runs.{Tables, entriesOf, Shows, Moment, seenIn, Run, begun, moved, Alike, Lockstep}
 use Rattle.cursor.specs.declared.places.Cursor.{Cursor}
 use Rattle.cursor.specs.declared.places.Cursor.the-variants.{Nowhere, On}
 use Rattle.cursor.specs.declared.db_iter.Moved.{Moved}
-use Rattle.cursor.specs.declared.db_iter.Moved.the-variants.{To, Refused}
 use Rattle.cursor.proofs.Growth.{cursor-kept, entry-stays}
 
 -- ---- one pair of tables with a cursor

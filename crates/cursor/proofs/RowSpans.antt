@@ -10,16 +10,16 @@ use types.Run.{OneOf}
 use denote.Enum.Declared.{tagOf}
 use Rattle.cursor.proofs.row_views.RowSpan.{the-type}
 use borrow.Author.Tests.{not-true, not-false}
-use Rattle.rule.specs.Lists.{cond, both, Maybe, none, some}
+use Rattle.rule.specs.Lists.{cond, both, none}
 use Rattle.image.specs.Sound.{headerHolds}
 use Rattle.image.specs.Refusals.{Answer, refused, given, refusalOf, numberOf, badImage}
-use Rattle.image.specs.EntryMoves.{Span, on, viewed, view, emptySpan, keySpan, valueSpan, partsOn, keyView, valueView}
+use Rattle.image.specs.EntryMoves.{Span, on, viewed, emptySpan, keySpan, valueSpan, partsOn, keyView, valueView}
 use Rattle.table.specs.EntryViews.{spanAs, SpanLies, Spans}
 use Rattle.table.proofs.Views.{same-refusal, span-lent}
 use Rattle.cursor.proofs.Rows.{shows-key, shows-value}
-use Rattle.cursor.specs.Places.{imageOf, keyAt, valueAt}
+use Rattle.cursor.specs.Places.{imageOf}
 use Rattle.cursor.specs.Rows.{shownOn, ShowsKey, ShowsValue, refusalOn, Refuses}
-use Rattle.cursor.specs.RowSpans.{PartIn, rowSpanAs, spanIn, partIn, View, spanAt, spanOn, rowSpan, partBytes, RowSpanLies, SpansAt, RowSpans}
+use Rattle.cursor.specs.RowSpans.{rowSpanAs, spanIn, partIn, View, spanAt, spanOn, rowSpan, partBytes, RowSpanLies, SpansAt, RowSpans}
 use Rattle.table.specs.declared.refusals.Refusal.the-variants.{BadImage}
 use Rattle.table.specs.declared.entry_views.SpanOn.{SpanOn}
 use Rattle.table.specs.declared.entry_views.SpanOn.the-variants.{At, Refused as RefusedOn}

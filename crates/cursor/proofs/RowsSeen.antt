@@ -13,7 +13,6 @@ use Rattle.image.specs.Sound.{Sound}
 use Rattle.image.specs.Refusals.{given}
 use Rattle.table.specs.Growth.{Additions}
 use Rattle.table.proofs.Growth.{additions-grow}
-use Rattle.cursor.specs.Places.{CursorIn}
 use Rattle.cursor.specs.Moves.{asked, keyGiven, startKey, MovedIs, movedAs, LeadsTo}
 use Rattle.cursor.specs.Runs.{Tables, entriesOf, Shows, Seen, Moment, seenIn, Run, begun, moved, movesIn, Still, InLimits, keyAfter, rowsBy, accepted, inOrder}
 use Rattle.cursor.specs.declared.places.Cursor.{Cursor}

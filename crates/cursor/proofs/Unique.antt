@@ -30,7 +30,7 @@ use Rattle.cursor.specs.declared.places.Side.{Side}
 use Rattle.cursor.specs.declared.places.Side.the-variants.{First, Second}
 use Rattle.cursor.specs.declared.places.Place.{Place}
 use Rattle.cursor.specs.declared.places.Cursor.{Cursor}
-use Rattle.cursor.specs.declared.places.Cursor.the-variants.{Nowhere, On}
+use Rattle.cursor.specs.declared.places.Cursor.the-variants.{On}
 use Rattle.cursor.specs.declared.db_iter.Moved.{Moved}
 use Rattle.cursor.specs.declared.db_iter.Moved.the-variants.{To, Refused}
 use Rattle.cursor.specs.declared.merging_iter.PairLookup.{PairLookup}

@@ -20,7 +20,7 @@ use Rattle.cursor.specs.Rows.{ShowsKey, ShowsValue}
 use Rattle.cursor.specs.declared.places.Cursor.{Cursor}
 use Rattle.cursor.specs.declared.places.Cursor.the-variants.{Nowhere, On}
 use Rattle.cursor.specs.declared.db_iter.Moved.{Moved}
-use Rattle.cursor.specs.declared.db_iter.Moved.the-variants.{To, Refused}
+use Rattle.cursor.specs.declared.db_iter.Moved.the-variants.{Refused}
 
 -- a pair of tables
 pub record Tables : Type 0 where

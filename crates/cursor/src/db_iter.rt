@@ -1,7 +1,6 @@
 // The visible cursor: its moves over two lent images at a snapshot, each from the cursor that it is handed. A move answers from
 // the entries held at that call; a refused one hands back its cursor. Nothing here writes.
 ghost use mathlib.Core.Path.{_≡_};
-ghost use mathlib.Core.Bool.{true};
 ghost use Rattle.rule.specs.Moves as rule;
 ghost use Rattle.table.specs.Questions.{cutOf};
 ghost use Rattle.cursor.specs.Places.{HeadersHold, inside};
