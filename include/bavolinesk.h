@@ -112,7 +112,8 @@ typedef struct {
     size_t looks;
 } bavo_presence;
 
-/* A part of the image: `length` bytes from `image + offset`, within the image. Refused, nowhere, and of a deletion's value: 0, 0. */
+/* A part of the image: `length` bytes from `image + offset`, within the image. Refused, nowhere, without a row, and of a deletion's value:
+ * 0, 0. */
 typedef struct {
     uint32_t refusal;
     size_t offset;
@@ -152,6 +153,11 @@ bavo_view bavo_value(const uint8_t *image, size_t image_len, size_t node);
 
 /* Its companion: the refusal that bavo_value gives to the same arguments, or 0. */
 uint32_t bavo_value_refusal(const uint8_t *image, size_t image_len, size_t node);
+
+/* The value of a key at a snapshot: bavo_get and bavo_value in one call. A value, an empty one too, never stands at offset 0, so refusal,
+ * offset and length 0 say that the key has no row.
+ * Refusals: 1, 3, 4, 9. */
+bavo_view bavo_get_value(const uint8_t *image, size_t image_len, const uint8_t *key, size_t key_len, uint64_t snapshot);
 
 /* ---- the entry cursor: over all entries of one table in their order, deletions included. On any bytes bavo_entry_next ends on an
  *      entry after the cursor's in that order, bavo_entry_prev before it, bavo_entry_seek at or after the key and number, and

@@ -149,6 +149,12 @@ static void questions(const uint8_t *older, const uint8_t *newer, size_t len)
     SAME(bavo_value_refusal(older, len, 3), BAVO_DONE);
     SAME(bavo_value_refusal(older, len, 4), BAVO_NO_NODE);
     SAME(bavo_value_refusal(older, len - 1, 4), BAVO_BAD_IMAGE);
+    VIEW(bavo_get_value(older, len, B("b"), 1, 2), BAVO_DONE, 111, 1);
+    VIEW(bavo_get_value(older, len, B("b"), 1, 1), BAVO_DONE, 0, 0);
+    VIEW(bavo_get_value(newer, len, B("a"), 1, 3), BAVO_DONE, 0, 0);
+    VIEW(bavo_get_value(older, len, long_part, BAVO_MAX_KEY + 1, 0), BAVO_LONG_KEY, 0, 0);
+    VIEW(bavo_get_value(older, len, long_part, BAVO_MAX_KEY + 1, BAVO_MAX_NUMBER + 1), BAVO_BAD_NUMBER, 0, 0);
+    VIEW(bavo_get_value(older, len - 1, long_part, BAVO_MAX_KEY + 1, BAVO_MAX_NUMBER + 1), BAVO_BAD_IMAGE, 0, 0);
 }
 
 static bavo_entry_cursor on(size_t node)
@@ -255,6 +261,7 @@ static void damage(uint8_t *f, uint8_t *g, size_t n)
     g[72] = 1;
     SAME(bavo_check(g, n), false);
     LOOKUP(bavo_get(g, n, B("c"), 1, 4), BAVO_DAMAGED, 0, 0, 0);
+    VIEW(bavo_get_value(g, n, B("c"), 1, 4), BAVO_DAMAGED, 0, 0);
     PRESENCE(bavo_contains(g, n, B("c"), 1, 0, 1), BAVO_DAMAGED, 0, 0);
     ADDED(add(g, n, "d", 5, BAVO_KIND_VALUE, ""), BAVO_DAMAGED, 0);
     ENTRY(bavo_entry_next(g, n, on(1)), BAVO_DAMAGED, BAVO_ON, 1);

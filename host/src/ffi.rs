@@ -100,6 +100,7 @@ extern "C" {
     pub fn bavo_get(image: *const u8, image_len: usize, key: *const u8, key_len: usize, snapshot: u64) -> Lookup;
     pub fn bavo_value(image: *const u8, image_len: usize, node: usize) -> View;
     pub fn bavo_value_refusal(image: *const u8, image_len: usize, node: usize) -> u32;
+    pub fn bavo_get_value(image: *const u8, image_len: usize, key: *const u8, key_len: usize, snapshot: u64) -> View;
 
     pub fn bavo_entry_first(image: *const u8, image_len: usize, at: EntryCursor) -> EntryMoved;
     pub fn bavo_entry_seek(image: *const u8, image_len: usize, at: EntryCursor, key: *const u8, key_len: usize, number: u64) -> EntryMoved;

@@ -126,6 +126,11 @@ pub fn value_refusal(image: &[u8], node: usize) -> u32 {
     unsafe { ffi::bavo_value_refusal(image.as_ptr(), image.len(), node) }
 }
 
+/// The value of a key at a snapshot, in one call; at offset 0 where the key has no row.
+pub fn get_value(image: &[u8], key: &[u8], snapshot: u64) -> View {
+    unsafe { ffi::bavo_get_value(image.as_ptr(), image.len(), key.as_ptr(), key.len(), snapshot) }
+}
+
 /// The first entry.
 pub fn entry_first(image: &[u8], at: EntryCursor) -> EntryMoved {
     unsafe { ffi::bavo_entry_first(image.as_ptr(), image.len(), at) }

@@ -6,19 +6,20 @@ use Rattle.rule.specs.Entries.{Entry}
 use Rattle.rule.specs.Moves.{Move}
 use Rattle.image.specs.EntryMoves.{EntryMove}
 use Rattle.table.specs.Memtable.{Freshens, Adds, Gets}
-use Rattle.table.specs.Presence.{Contains}
+use Rattle.table.specs.Presence.{Contains, ShowsRow}
 use Rattle.table.specs.MemtableIter.{Moves as EntryMoves}
 use Rattle.table.proofs.OneAnswer as table
 use Rattle.cursor.specs.Moves.{Moves, Decided}
 use Rattle.cursor.specs.Pairs.{GetsPair}
 use Rattle.cursor.proofs.Unique as cursor
 use Rattle.capi.specs.Plain.{Plainly}
-use Rattle.capi.specs.Memtable.{plainFreshened, plainAdded, plainPresence, plainLookup}
+use Rattle.capi.specs.Memtable.{plainFreshened, plainAdded, plainPresence, plainLookup, plainView}
 use Rattle.capi.specs.EntryIter.{entryCursorOf, plainEntryMoved}
 use Rattle.capi.specs.DbIter.{cursorOf, plainMoved, plainPairLookup}
 use Rattle.capi.specs.declared.memtable.BavoAdded.{BavoAdded}
 use Rattle.capi.specs.declared.memtable.BavoPresence.{BavoPresence}
 use Rattle.capi.specs.declared.memtable.BavoLookup.{BavoLookup}
+use Rattle.capi.specs.declared.memtable.BavoView.{BavoView}
 use Rattle.capi.specs.declared.entry_iter.BavoEntryCursor.{BavoEntryCursor}
 use Rattle.capi.specs.declared.entry_iter.BavoEntryMoved.{BavoEntryMoved}
 use Rattle.capi.specs.declared.db_iter.BavoCursor.{BavoCursor}
@@ -40,6 +41,9 @@ contains-one xs k n kind = once plainPresence (table.contains-one xs k n kind)
 
 pub get-one : (xs k : List ℕ) (t : ℕ) {r s : BavoLookup} → Plainly plainLookup (λ a. Gets xs k t a) r → Plainly plainLookup (λ a. Gets xs k t a) s → r ≡ s
 get-one xs k t = once plainLookup (table.get-one xs k t)
+
+pub get-value-one : (xs k : List ℕ) (t : ℕ) {r s : BavoView} → Plainly plainView (λ a. ShowsRow xs k t a) r → Plainly plainView (λ a. ShowsRow xs k t a) s → r ≡ s
+get-value-one xs k t = once plainView (table.row-span-one xs k t)
 
 pub entry-move-one : (xs : List ℕ) (m : EntryMove) (at : BavoEntryCursor) {r s : BavoEntryMoved} → Plainly (plainEntryMoved at) (λ a. EntryMoves xs m (entryCursorOf at) a) r → Plainly (plainEntryMoved at) (λ a. EntryMoves xs m (entryCursorOf at) a) s → r ≡ s
 entry-move-one xs m at = once (plainEntryMoved at) (table.move-one xs m (entryCursorOf at))

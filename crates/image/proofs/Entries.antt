@@ -239,6 +239,34 @@ rest-inside xs end k p g = go (rest-steps xs end k p g)
     go : RestSteps xs end k p → (p .keyed ≡ k) × (p .valueAt + p .valueLen ≡ end)
     go a = (sym (ap (λ (q : Parts). q .keyed) (a .is)), rw (← a .is) (a .fills))
 
+-- and behind the place where the entry begins
+len-behind : (xs : List ℕ) (end o : ℕ) (l : Len) → lenAt xs end o ≡ got l → o ≤ l .after
+unfolding lenAt
+len-behind xs end o l g = let (_, f) = check-got (ltb o end) o _ l g in go (ltb (getD xs o 0) 128) f
+  where
+    one : Len
+    one = record { is = getD xs o 0; after = o + 1 }
+
+    two : Len
+    two = record { is = (getD xs o 0 - 128) + 128 * getD xs (o + 1) 0; after = o + 2 }
+
+    go : (t : Bool) → cond t (got one) (check (both (ltb (o + 1) end) (both (leb 1 (getD xs (o + 1) 0)) (ltb (getD xs (o + 1) 0) 128))) o (got two)) ≡ got l → o ≤ l .after
+    go true e = let z : o + 1 ≡ l .after = ap (λ (q : Len). q .after) (got-same e) in omega arith
+    go false e = let (_, f) = check-got (both (ltb (o + 1) end) (both (leb 1 (getD xs (o + 1) 0)) (ltb (getD xs (o + 1) 0) 128))) o (got two) l e in
+        let z : o + 2 ≡ l .after = ap (λ (q : Len). q .after) (got-same f) in omega arith
+
+pub keyed-behind : (xs : List ℕ) (o end : ℕ) (k : Keyed) → keyedAt xs o end ≡ got k → o ≤ k .keyAt
+keyed-behind xs o end k g = go (keyed-steps xs o end k g)
+  where
+    go : KeyedSteps xs o end k → o ≤ k .keyAt
+    go a = let z : a .len .after ≡ k .keyAt = ap (λ (q : Keyed). q .keyAt) (a .is) in omega (arith, len-behind xs end o (a .len) (a .read))
+
+pub rest-behind : (xs : List ℕ) (end : ℕ) (k : Keyed) (p : Parts) → restAt xs end k ≡ got p → k .rest ≤ p .valueAt
+rest-behind xs end k p g = go (rest-steps xs end k p g)
+  where
+    go : RestSteps xs end k p → k .rest ≤ p .valueAt
+    go a = let z : a .len .after ≡ p .valueAt = ap (λ (q : Parts). q .valueAt) (a .is) in omega (arith, len-behind xs end (k .rest) (a .len) (a .read))
+
 -- an entry of bytes is written in bytes
 varint-bytes : (n : ℕ) → n < 16384 → Bytes (varint n)
 varint-bytes n l = go (ltb n 128) refl

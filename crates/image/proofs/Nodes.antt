@@ -16,7 +16,7 @@ use Rattle.image.specs.Entries.{encode, Keyed, Parts, keyedAt, restAt, e
 use Rattle.image.specs.Nodes.{free, slot, slotPlace, entryPlace, sizeOf, Lead, leadAt, Node, nodeFrom, entryFrom, heightOf, entryOf, linksAt, NodeHere, NodeIs}
 use Rattle.image.proofs.Words.{word-same, holds-same}
 use Rattle.image.proofs.Readers.{got-same, bind-got, check-got}
-use Rattle.image.proofs.Entries.{keyedOf, partsOf, keyed-read, rest-read, parts-entry, Fills, parts-sound, keyed-inside, rest-inside}
+use Rattle.image.proofs.Entries.{keyedOf, partsOf, keyed-read, rest-read, parts-entry, Fills, parts-sound, keyed-inside, rest-inside, keyed-behind, rest-behind}
 
 -- how a node of height h with the entry e at o is read
 abbrev pub leadFor : ℕ → ℕ → Entry → Lead
@@ -160,6 +160,17 @@ node-inside xs limit o n g = let (m, gm, gn) = bind-got (leadAt xs limit o) (nod
     go : (m : Lead) → Bounds xs limit o m → NodeSteps xs m n → (n .parts .keyed .keyAt + n .parts .keyed .keyLen ≤ limit) × (n .parts .valueAt + n .parts .valueLen ≤ limit)
     go m b s = let (k, v) = rest-inside xs (m .end) (m .keyed) (s .parts) (s .read) in let high = b .end-inside in
         (rw (← s .is, k) (omega (arith, b .key-inside)), rw (← s .is) (omega arith))
+
+-- its value stands behind the header
+pub value-behind : (xs : List ℕ) (limit o : ℕ) (n : Node) → bind (leadAt xs limit o) (nodeFrom xs) ≡ got n → headerSize ≤ n .parts .valueAt
+value-behind xs limit o n g = let (m, gm, gn) = bind-got (leadAt xs limit o) (nodeFrom xs) n g in go m (lead-steps xs limit o m gm) (lead-bounds xs limit o m gm) (node-steps xs m n gn)
+  where
+    go : (m : Lead) → LeadSteps xs limit o m → Bounds xs limit o m → NodeSteps xs m n → headerSize ≤ n .parts .valueAt
+    go m s b t =
+        let k : s .keyed ≡ m .keyed = ap (λ (q : Lead). q .keyed) (s .is) in
+        let at : entryPlace o (word xs o) ≤ m .keyed .keyAt = rw (← k) (keyed-behind xs (entryPlace o (word xs o)) (entryPlace o (word xs o) + word xs (o + 4)) (s .keyed) (s .read)) in
+        let rest = rest-behind xs (m .end) (m .keyed) (t .parts) (t .read) in
+        rw (← t .is) (omega (arith, b .behind, b .rest-is, at, rest))
 
 -- a node is kept where its height, its length and its entry are
 pub node-same : (xs ys : List ℕ) (limit limit′ o h : ℕ) (e : Entry) → limit ≤ limit′ → Same xs ys o (o + 8) → Same xs ys (entryPlace o h) (o + sizeOf h e) → NodeHere xs limit o h e → NodeHere ys limit′ o h e

@@ -1,11 +1,12 @@
 // Made by tools/moving from crates/table/src/presence.rt: its bodies, other contracts.
-// Presence of an entry, and the value of a key: two questions that end in one node.
-ghost use Prim.Native.Nat.{_≤_};
+// Presence of an entry, and where the value of a key stands: two questions that end in one node.
+ghost use Prim.Native.Nat.{ℕ, _≤_};
 ghost use lib.ListN.{length};
 ghost use Rattle.moving.specs.Nodes.{Numbered};
-ghost use Rattle.moving.specs.Answers.{PresenceFits};
+ghost use Rattle.moving.specs.Answers.{PresenceFits, SpanFits};
 use crate::entries::MAX_KEY;
-use crate::entry_views::value;
+use crate::entry_views::SpanOn;
+use crate::entry_views::value_span;
 use crate::key_types::Number;
 use crate::key_types::Tag;
 use crate::memtable::Lookup;
@@ -71,10 +72,26 @@ pub fn contains(s: &[u8], key: &[u8], number: u64, kind: u8) -> Presence
     held_at(s, f, node, kind, looks)
 }
 
-// The value of a key at a snapshot, a part of the image itself; empty where the key has no row, or the lookup is refused.
-pub fn get_value<'a>(s: &'a [u8], key: &[u8], snapshot: u64) -> &'a [u8] {
-    let Lookup::Found { node, looks: _ } = get(s, key, snapshot) else {
-        return &s[..0];
+// What a lookup that found no value shows: its refusal, or the empty part at 0.
+fn without_value(found: Lookup) -> SpanOn
+    ensures { λ r. ⌜ ((len : ℕ) → SpanFits len r) ⌝ }
+{
+    match found {
+        Lookup::Refused(q) => SpanOn::Refused(q),
+        Lookup::Found { node: _, looks: _ } => SpanOn::At { at: 0, len: 0 },
+        Lookup::Deleted { looks: _ } => SpanOn::At { at: 0, len: 0 },
+        Lookup::Absent { looks: _ } => SpanOn::At { at: 0, len: 0 },
+    }
+}
+
+// Where the value of a key at a snapshot stands. It stands behind the header; where the key has no row it is the empty part at 0.
+// Refusals 1, 3, 4, 9.
+pub fn get_span(s: &[u8], key: &[u8], snapshot: u64) -> SpanOn
+    ensures { λ r. ⌜ SpanFits (length (now (s .entry))) r ⌝ }
+{
+    let found = get(s, key, snapshot);
+    let Lookup::Found { node, looks: _ } = found else {
+        return without_value(found);
     };
-    value(s, node)
+    value_span(s, node)
 }

@@ -18,6 +18,7 @@ use Rattle.image.specs.Cuts.{Cut, all, from, above, below}
 use Rattle.image.specs.Newest.{NewestAt as NewestAtIs, value, deletion, nothing}
 use Rattle.table.specs.Refusals.{refusalIs}
 use Rattle.table.specs.Memtable.{freshenedAs, Freshens, addedAs, Adds, lookupAs, Gets}
+use Rattle.table.specs.EntryViews.{spanAs, Spans}
 use Rattle.table.specs.Presence.{presenceAs, Contains, ShowsRow}
 use Rattle.table.specs.Nodes.{Framed}
 use Rattle.table.specs.MemtableIter.{cursorIs, Tested, movedAs, HandsBack, Moves}
@@ -126,6 +127,11 @@ movedFrom : EntryCursor → Answer Cursor → EntryMoved
 movedFrom c (given d) = To (cursorFrom d)
 movedFrom c (refused r) = Refused (refusalFrom r) c
 
+-- where a view stands
+spanFrom : Answer Span → SpanOn
+spanFrom (given s) = span.At (s .at) (s .len)
+spanFrom (refused r) = span.Refused (refusalFrom r)
+
 -- the questions have one refusal, damage
 hitFrom : Answer Cursor → Hit
 hitFrom (given nowhere) = hit.Nothing
@@ -219,8 +225,16 @@ test-one xs c (test.Failed p) (test.Failed q) a b = ap {B = CursorTest} test.Fai
 pub check-one : (xs : List ℕ) (r q : Bool) → Checked xs r → Checked xs q → r ≡ q
 check-one xs r q a b = a .exact ∙ sym (b .exact)
 
-pub value-one : (xs k : List ℕ) (s : ℕ) (v w : List ℕ) → ShowsRow xs k s v → ShowsRow xs k s w → v ≡ w
-value-one xs k s v w a b = a .exact ∙ sym (b .exact)
+span-back : (r : SpanOn) → spanFrom (spanAs r) ≡ r
+unfolding spanFrom
+span-back (span.At o n) = refl
+span-back (span.Refused q) = ap {B = SpanOn} span.Refused (refusal-back q)
+
+pub spans-one : (xs : List ℕ) (v : Answer Span) (r q : SpanOn) → Spans xs v r → Spans xs v q → r ≡ q
+spans-one xs v r q a b = recovered spanAs spanFrom span-back r q (a .exact ∙ sym (b .exact))
+
+pub row-span-one : (xs k : List ℕ) (s : ℕ) (r q : SpanOn) → ShowsRow xs k s r → ShowsRow xs k s q → r ≡ q
+row-span-one xs k s r q a b = recovered spanAs spanFrom span-back r q (a .exact ∙ sym (b .exact))
 
 pub near-one : (xs : List ℕ) (c : Cut) (t : List ℕ) (r q : Hit) → Nears xs c t r → Nears xs c t q → r ≡ q
 unfolding hitFrom

@@ -1,38 +1,49 @@
--- The ways out of the question for presence, and of the value of a key.
-use Prim.Native.Nat.{ℕ, _%_, _<_, _≤_}
+-- The ways out of the question for presence, and of the question where the value of a key stands.
+use Prim.Native.Nat.{ℕ, zero, suc, _%_, _<_, _≤_}
 use native.Mathlib.Omega.{arith}
 use mathlib.Core.Path.{_≡_, refl, sym, ap, _∙_}
 use mathlib.Core.Logic.{⊎-elim}
 use mathlib.Core.List.{List, [], _∷_}
 use mathlib.Core.Bool.{Bool, true, false, not}
 use lib.ListN.{length}
-use lib.Dec.{leb}
-use borrow.Author.Tests.{lt-leb, le-leb, eq-eqb, ne-eqb, not-true, not-false}
+use lib.Dec.{leb, eqb}
+use borrow.Author.Tests.{lt-leb, le-leb, eq-eqb, ne-eqb, eqb-true, not-true, not-false}
 use types.Run.{OneOf}
 use denote.Enum.Declared.{tagOf}
 use Rattle.table.proofs.memtable.Lookup.{the-type}
+use Rattle.rule.specs.Lists.{cond, some}
+use Rattle.rule.specs.Order.{compareKeys, isEqual}
+use Rattle.rule.specs.Entries.{Entry, valueKind}
 use Rattle.rule.specs.Rows.{row}
-use Rattle.image.specs.Limits.{maxKey, maxNumber}
+use Rattle.image.specs.Limits.{maxKey, maxNumber, headerSize}
 use Rattle.image.specs.Readers.{got, bad}
-use Rattle.image.specs.Nodes.{Node, nodeAt}
+use Rattle.image.specs.Entries.{entryIn}
+use Rattle.image.specs.Nodes.{free, slot, Node, nodeAt}
 use Rattle.image.specs.Sound.{headerHolds, Sound, held}
-use Rattle.image.specs.Search.{toStop, hit, searched}
-use Rattle.image.specs.Refusals.{badImage, badKind, badNumber, longKey, damaged, Answer, refused, given, reading}
-use Rattle.image.specs.Lookup.{Looked, found, deleted, absent, Presence as PresenceIs, heldAt, presence}
-use Rattle.image.specs.EntryMoves.{on, viewed, valueView}
+use Rattle.image.specs.Search.{toStop, Found, hit, searched, looksOf, standing}
+use Rattle.image.specs.Refusals.{badImage, badKind, badNumber, longKey, damaged, noNode, Answer, refused, given, demand, reading}
+use Rattle.image.specs.Lookup.{Looked, found, deleted, absent, Lookup as LookupIs, saysOf, saidAt, get, Presence as PresenceIs, heldAt, presence}
+use Rattle.image.specs.EntryMoves.{on, inTable, Span, emptySpan, partsOn, view, viewed, kindIn, valueSpan, valueView}
 use Rattle.image.specs.Meaning.{Tells}
-use Rattle.image.proofs.Lookup.{presence-given, presence-tells}
-use Rattle.image.proofs.Views.{value-shown}
+use Rattle.image.proofs.Readers.{got-same, bind-got}
+use Rattle.image.proofs.Refusals.{refused-given, demand-given, reading-given}
+use Rattle.image.proofs.Nodes.{value-behind}
+use Rattle.image.proofs.Lookup.{presence-given, presence-tells, node-is}
+use Rattle.image.proofs.Views.{parts-sound, value-shown}
 use Rattle.table.specs.Nodes.{Framed}
 use Rattle.table.specs.Neighbours.{stood, standsAt}
 use Rattle.table.specs.Memtable.{lookupAs, Gets}
-use Rattle.table.specs.Presence.{presenceAs, Contains, saidValue, foundValue, rowValue, ShowsRow}
+use Rattle.table.specs.EntryViews.{spanAs, SpanLies, Spans}
+use Rattle.table.specs.Presence.{presenceAs, Contains, saidSpan, foundSpan, bareSpan, Bares, RowAt, ShowsRow}
 use Rattle.table.proofs.NodeBytes.{framed-holds}
 use Rattle.table.proofs.Adjacent.{failed, equal-hit, other-ends}
+use Rattle.table.specs.declared.refusals.Refusal.{Refusal}
 use Rattle.table.specs.declared.nodes.Frame.{Frame}
 use Rattle.table.specs.declared.memtable.Lookup.{Lookup}
 use Rattle.table.specs.declared.memtable.Lookup.the-variants as lookup
 use Rattle.table.specs.declared.presence.Presence.{Presence}
+use Rattle.table.specs.declared.entry_views.SpanOn.{SpanOn}
+use Rattle.table.specs.declared.entry_views.SpanOn.the-variants as span
 
 -- what is answered of what is held
 abbrev pub answer : ℕ → Bool → Answer PresenceIs
@@ -104,6 +115,12 @@ module _ (xs k : List ℕ) (n kind : ℕ) where
 
 -- ---- the value of a key
 
+given-same : {A : Type 0} {a b : A} → given a ≡ given b → a ≡ b
+given-same e = cc
+
+same-says : {a b : LookupIs} → given a ≡ given b → a .says ≡ b .says
+same-says e = ap (λ (l : LookupIs). l .says) (given-same e)
+
 -- a lookup that found nothing to show
 abbrev pub Bare : Lookup → Type 0
 Bare (lookup.Found i looks) = ⊥
@@ -118,27 +135,90 @@ bare-else (lookup.Deleted looks) k = tt
 bare-else (lookup.Absent looks) k = tt
 bare-else (lookup.Refused q) k = tt
 
+-- what it shows
+pub bares-refused : {a : Lookup} {q : Refusal} → a ≡ lookup.Refused q → Bares (lookupAs a) (span.Refused q)
+bares-refused e = record { exact = rw e; lies = λ xs. tt }
+
+pub bares-given : {a : Answer LookupIs} {l : LookupIs} → a ≡ given l → Bares a (span.At 0 0)
+bares-given e = record { exact = rw e; lies = λ xs. omega arith }
+
+-- a node that a lookup found is read whole, and is a value
+module _ (xs k : List ℕ) (s i looks : ℕ) where
+  abbrev Reads : Type 0
+  Reads = (m : Node) × (nodeAt xs i ≡ got m) × (kindIn (m .parts) ≡ valueKind)
+
+  said-found : (x : ℕ) → saidAt xs k x ≡ got (found i) → Reads
+  said-found zero e = let z : _≡_ {A = ℕ} 0 1 = cc in absurd (omega arith)
+  said-found (suc x) e = let (m, g, f) = bind-got (nodeAt xs (suc x)) (λ m. got (saysOf k (suc x) (entryIn xs (m .parts)))) (found i) e in
+      go m g (isEqual (compareKeys ((entryIn xs (m .parts)) .key) k)) (eqb (kindIn (m .parts)) valueKind) refl (got-same f)
+    where
+      go : (m : Node) → nodeAt xs (suc x) ≡ got m → (b v : Bool) → eqb (kindIn (m .parts)) valueKind ≡ v → cond b (cond v (found (suc x)) deleted) absent ≡ found i → Reads
+      go m g true true v f = let z : suc x ≡ i = cc in (m, rw (← z) g, eqb-true (kindIn (m .parts)) valueKind v)
+      go m g true false v f = let z : _≡_ {A = ℕ} 0 1 = cc in absurd (omega arith)
+      go m g false b v f = let z : _≡_ {A = ℕ} 0 1 = cc in absurd (omega arith)
+
+  -- what a lookup answers of what is said
+  abbrev told-with : ℕ → Looked → Answer LookupIs
+  told-with n a = given (record { says = a; looks = n })
+
+  abbrev told-of : Found → Answer LookupIs
+  told-of q = reading (saidAt xs k (standing q)) (told-with (looksOf q))
+
+  pub found-read : get xs k s ≡ given (record { says = found i; looks = looks }) → Reads
+  unfolding get
+  found-read e =
+      let w : LookupIs = record { says = found i; looks = looks } in
+      let (_, e1) = demand-given (headerHolds xs) badImage (demand (leb s maxNumber) badNumber (demand (leb (length k) maxKey) longKey (reading (searched xs toStop k s) told-of))) w e in
+      let (_, e2) = demand-given (leb s maxNumber) badNumber (demand (leb (length k) maxKey) longKey (reading (searched xs toStop k s) told-of)) w e1 in
+      let (_, e3) = demand-given (leb (length k) maxKey) longKey (reading (searched xs toStop k s) told-of) w e2 in
+      let (q, g, e4) = reading-given (searched xs toStop k s) told-of w e3 in
+      let (a, p, e5) = reading-given (saidAt xs k (standing q)) (told-with (looksOf q)) w e4 in
+      let z : a ≡ found i = same-says e5 in
+      said-found (standing q) (rw z at p)
+
+-- its value stands behind the header
+module _ (xs : List ℕ) (i : ℕ) (m : Node) (node : nodeAt xs i ≡ got m) (kind : kindIn (m .parts) ≡ valueKind) (o n : ℕ) where
+  pub found-behind : given (record { at = o; len = n }) ≡ valueView xs (on i) → headerSize ≤ o
+  unfolding partsOn
+  found-behind e = go (headerHolds xs) (inTable xs (on i)) (rw node at e)
+    where
+      go : (h t : Bool) → given (record { at = o; len = n }) ≡ view valueSpan emptySpan (demand h badImage (demand t noNode (given (some (m .parts))))) → headerSize ≤ o
+      go true true w =
+          let z : o ≡ m .parts .valueAt = ap (λ (q : Span). q .at) (given-same (rw (eq-eqb (kindIn (m .parts)) valueKind kind) at w)) in
+          omega (arith, value-behind xs (free xs) (slot xs i) m node)
+      go true false w = absurd (refused-given (sym w))
+      go false t w = absurd (refused-given (sym w))
+
+-- on a sound image what is said is the row
+module _ (xs k : List ℕ) (s : ℕ) (sound : Sound xs) where
+  row-at : (w : Looked) → Tells xs k s w → (v : SpanOn) → spanAs v ≡ saidSpan xs w → RowAt xs (row k s (held xs)) v
+  row-at (found i) (n, f, g) (span.At o l) e =
+      let (m, read, is) = node-is xs sound i n in
+      let kind : kindIn (m .parts) ≡ valueKind = ap (λ (d : Entry). d .kind) is ∙ g in
+      rw (f, g) (found-behind xs i m read kind o l e, ap (viewed xs) e ∙ value-shown xs sound i n ∙ rw g)
+  row-at (found i) (n, f, g) (span.Refused q) e = let (p, read, is) = parts-sound xs sound i n in absurd (refused-given (e ∙ ap (view valueSpan emptySpan) read))
+  row-at deleted (d, f, g) (span.At o l) e = let z = given-same e in rw (f, g) (ap (λ (q : Span). q .at) z, ap (λ (q : Span). q .len) z)
+  row-at deleted (d, f, g) (span.Refused q) e = absurd (refused-given e)
+  row-at absent f (span.At o l) e = let z = given-same e in rw f (ap (λ (q : Span). q .at) z, ap (λ (q : Span). q .len) z)
+  row-at absent f (span.Refused q) e = absurd (refused-given e)
+
 module _ (xs k : List ℕ) (s : ℕ) (r : Lookup) (gets : Gets xs k s r) where
-  -- on a sound image what was found is the row
-  row-shown : (v : List ℕ) → v ≡ foundValue xs (lookupAs r) → Sound xs → s ≤ maxNumber → length k ≤ maxKey → v ≡ rowValue (row k s (held xs))
-  row-shown v e sound low short = let (a, f, t) = gets .rule sound low short in e ∙ ap (foundValue xs) f ∙ told (a .says) t
-    where
-      told : (w : Looked) → Tells xs k s w → saidValue xs w ≡ rowValue (row k s (held xs))
-      told (found i) (n, f, g) = value-shown xs sound i n ∙ rw (f, g)
-      told deleted (d, f, g) = rw (f, g)
-      told absent f = rw f
+  shows : (v : SpanOn) → spanAs v ≡ foundSpan xs (lookupAs r) → SpanLies xs v → ShowsRow xs k s v
+  shows v e l = let exact = e ∙ ap (foundSpan xs) (gets .exact) in record {
+    exact = exact;
+    lies = l;
+    apart = λ i looks o n f q. let (m, node, kind) = found-read xs k s i looks f in found-behind xs i m node kind o n (sym (ap spanAs q) ∙ exact ∙ ap (foundSpan xs) f);
+    rule = λ sound low short. let (a, f, t) = gets .rule sound low short in row-at xs k s sound (a .says) t v (e ∙ ap (foundSpan xs) f);
+  }
 
-  shows : (v : List ℕ) → v ≡ foundValue xs (lookupAs r) → ShowsRow xs k s v
-  shows v e = record { exact = e ∙ ap (foundValue xs) (gets .exact); rule = row-shown v e }
-
-  pub shows-nothing : Bare r → ShowsRow xs k s []
-  shows-nothing b = shows [] (go r b)
+  pub shows-nothing : Bare r → (v : SpanOn) → Bares (lookupAs r) v → ShowsRow xs k s v
+  shows-nothing b v w = shows v (w .exact ∙ go r b) (w .lies xs)
     where
-      go : (r : Lookup) → Bare r → [] ≡ foundValue xs (lookupAs r)
+      go : (r : Lookup) → Bare r → bareSpan (lookupAs r) ≡ foundSpan xs (lookupAs r)
       go (lookup.Found i looks) b = absurd b
       go (lookup.Deleted looks) b = refl
       go (lookup.Absent looks) b = refl
       go (lookup.Refused q) b = refl
 
-  pub shows-found : {i looks : ℕ} → r ≡ lookup.Found i looks → (v : List ℕ) → v ≡ viewed xs (valueView xs (on i)) → ShowsRow xs k s v
-  shows-found e v f = shows v (f ∙ ap (λ (q : Lookup). foundValue xs (lookupAs q)) (sym e))
+  pub shows-found : {i looks : ℕ} → r ≡ lookup.Found i looks → (v : SpanOn) → Spans xs (valueView xs (on i)) v → ShowsRow xs k s v
+  shows-found e v w = shows v (w .exact ∙ ap (λ (q : Lookup). foundSpan xs (lookupAs q)) (sym e)) (w .lies)

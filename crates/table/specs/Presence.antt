@@ -1,20 +1,24 @@
--- What the question for presence promises, and what the value of a key does.
+-- What the question for presence promises, and the question where the value of a key stands.
 use Prim.Native.Nat.{ℕ, _+_, _≤_}
 use mathlib.Core.Path.{_≡_}
 use mathlib.Core.Logic.{_↔_}
-use mathlib.Core.List.{List, []}
+use mathlib.Core.List.{List}
 use mathlib.Core.Bool.{true, false}
 use lib.ListN.{length}
 use Rattle.rule.specs.Lists.{Maybe, none, some}
 use Rattle.rule.specs.Rows.{row}
-use Rattle.image.specs.Limits.{maxNumber, maxKey, levels}
+use Rattle.image.specs.Limits.{maxNumber, maxKey, levels, headerSize}
+use Rattle.image.specs.Words.{part}
 use Rattle.image.specs.Nodes.{count}
 use Rattle.image.specs.Sound.{Sound, held}
 use Rattle.image.specs.Refusals.{Answer, refused, given}
 use Rattle.image.specs.Lookup.{Looked, found, deleted, absent, Lookup as LookupIs, get, Presence as PresenceIs, presence}
-use Rattle.image.specs.EntryMoves.{on, viewed, valueView}
+use Rattle.image.specs.EntryMoves.{on, Span, emptySpan, valueView}
 use Rattle.image.specs.Meaning.{IsHeld}
 use Rattle.table.specs.Refusals.{refusalIs}
+use Rattle.table.specs.EntryViews.{spanAs, SpanLies}
+use Rattle.table.specs.declared.entry_views.SpanOn.{SpanOn}
+use Rattle.table.specs.declared.entry_views.SpanOn.the-variants as span
 use Rattle.table.specs.declared.presence.Presence.{Presence}
 use Rattle.table.specs.declared.presence.Presence.the-variants.{Held, NotHeld, Refused}
 
@@ -35,23 +39,36 @@ pub record Contains (xs k : List ℕ) (n kind : ℕ) (r : Presence) : Type 0 whe
   pub looks : (a : PresenceIs) → presenceAs r ≡ given a → a .looks ≤ count xs + levels
   pub rule : Sound xs → kind ≤ 1 → n ≤ maxNumber → length k ≤ maxKey → PresenceRule xs k n kind r
 
--- the value of what a lookup says
-abbrev pub saidValue : List ℕ → Looked → List ℕ
-saidValue xs (found i) = viewed xs (valueView xs (on i))
-saidValue xs deleted = []
-saidValue xs absent = []
+-- where the value stands of what a lookup says; without a row it is the empty part at 0
+abbrev pub saidSpan : List ℕ → Looked → Answer Span
+saidSpan xs (found i) = valueView xs (on i)
+saidSpan xs deleted = given emptySpan
+saidSpan xs absent = given emptySpan
 
--- the value of the node that a lookup found; else it is empty
-abbrev pub foundValue : List ℕ → Answer LookupIs → List ℕ
-foundValue xs (refused r) = []
-foundValue xs (given a) = saidValue xs (a .says)
+-- the same of its answer
+abbrev pub foundSpan : List ℕ → Answer LookupIs → Answer Span
+foundSpan xs (refused r) = refused r
+foundSpan xs (given a) = saidSpan xs (a .says)
 
--- the value of a row; without a row it is empty
-abbrev pub rowValue : Maybe (List ℕ) → List ℕ
-rowValue none = []
-rowValue (some v) = v
+-- an answer that names no node: its refusal, or the empty part at 0
+abbrev pub bareSpan : Answer LookupIs → Answer Span
+bareSpan (refused r) = refused r
+bareSpan (given a) = given emptySpan
 
--- what `get_value` promises
-pub record ShowsRow (xs k : List ℕ) (s : ℕ) (v : List ℕ) : Type 0 where
-  pub exact : v ≡ foundValue xs (get xs k s)
-  pub rule : Sound xs → s ≤ maxNumber → length k ≤ maxKey → v ≡ rowValue (row k s (held xs))
+pub record Bares (a : Answer LookupIs) (r : SpanOn) : Type 0 where
+  pub exact : spanAs r ≡ bareSpan a
+  pub lies : (xs : List ℕ) → SpanLies xs r
+
+-- the value of a row, which stands behind the header; without a row it is the empty part at 0, so that no row is told from an empty value
+abbrev pub RowAt : List ℕ → Maybe (List ℕ) → SpanOn → Type 0
+RowAt xs none (span.At o n) = (o ≡ 0) × (n ≡ 0)
+RowAt xs none (span.Refused q) = ⊥
+RowAt xs (some v) (span.At o n) = (headerSize ≤ o) × (part xs o n ≡ v)
+RowAt xs (some v) (span.Refused q) = ⊥
+
+-- what `get_span` promises; `apart`: on any bytes a found value stands behind the header
+pub record ShowsRow (xs k : List ℕ) (s : ℕ) (r : SpanOn) : Type 0 where
+  pub exact : spanAs r ≡ foundSpan xs (get xs k s)
+  pub lies : SpanLies xs r
+  pub apart : (i looks o n : ℕ) → get xs k s ≡ given (record { says = found i; looks = looks }) → r ≡ span.At o n → headerSize ≤ o
+  pub rule : Sound xs → s ≤ maxNumber → length k ≤ maxKey → RowAt xs (row k s (held xs)) r

@@ -10,6 +10,6 @@ pub mod refusals; // refusals.rt: why a call is refused
 pub mod memtable; // memtable.rt: the calls on one table
 pub mod memtable_iter; // memtable_iter.rt: the entry cursor
 pub mod entry_views; // entry_views.rt: what stands at an entry cursor, and where in the image
-pub mod presence; // presence.rt: presence of an entry, value of a key
+pub mod presence; // presence.rt: presence of an entry, where the value of a key stands
 pub mod questions; // questions.rt: what the layer above asks of one table
 pub mod check; // check.rt: whether an image is sound

@@ -1,12 +1,14 @@
-// Presence of an entry, and the value of a key: two questions that end in one node.
+// Presence of an entry, and where the value of a key stands: two questions that end in one node.
 ghost use mathlib.Core.Path.{_≡_};
 ghost use Rattle.image.specs.Refusals.{given, reading};
 ghost use Rattle.image.specs.Search.{hit};
 ghost use Rattle.image.specs.Lookup.{heldAt};
 ghost use Rattle.table.specs.Nodes.{Numbered};
-ghost use Rattle.table.specs.Presence.{presenceAs, Contains, ShowsRow};
+ghost use Rattle.table.specs.Memtable.{lookupAs};
+ghost use Rattle.table.specs.Presence.{presenceAs, Contains, Bares, ShowsRow};
 use crate::entries::MAX_KEY;
-use crate::entry_views::value;
+use crate::entry_views::SpanOn;
+use crate::entry_views::value_span;
 use crate::key_types::Number;
 use crate::key_types::Tag;
 use crate::memtable::Lookup;
@@ -72,12 +74,26 @@ pub fn contains(s: &[u8], key: &[u8], number: u64, kind: u8) -> Presence
     held_at(s, f, node, kind, looks)
 }
 
-// The value of a key at a snapshot, a part of the image itself; empty where the key has no row, or the lookup is refused.
-pub fn get_value<'a>(s: &'a [u8], key: &[u8], snapshot: u64) -> &'a [u8]
-    ensures { λ r. ⌜ ShowsRow (now (s .entry)) (now (key .entry)) snapshot (now r) ⌝ }
+// What a lookup that found no value shows: its refusal, or the empty part at 0.
+fn without_value(found: Lookup) -> SpanOn
+    ensures { λ r. ⌜ Bares (lookupAs found) r ⌝ }
 {
-    let Lookup::Found { node, looks: _ } = get(s, key, snapshot) else {
-        return &s[..0];
+    match found {
+        Lookup::Refused(q) => SpanOn::Refused(q),
+        Lookup::Found { node: _, looks: _ } => SpanOn::At { at: 0, len: 0 },
+        Lookup::Deleted { looks: _ } => SpanOn::At { at: 0, len: 0 },
+        Lookup::Absent { looks: _ } => SpanOn::At { at: 0, len: 0 },
+    }
+}
+
+// Where the value of a key at a snapshot stands. It stands behind the header; where the key has no row it is the empty part at 0.
+// Refusals 1, 3, 4, 9.
+pub fn get_span(s: &[u8], key: &[u8], snapshot: u64) -> SpanOn
+    ensures { λ r. ⌜ ShowsRow (now (s .entry)) (now (key .entry)) snapshot r ⌝ }
+{
+    let found = get(s, key, snapshot);
+    let Lookup::Found { node, looks: _ } = found else {
+        return without_value(found);
     };
-    value(s, node)
+    value_span(s, node)
 }

@@ -49,11 +49,19 @@ put-word-requires-2 : tie.Need-put-word-requires-2
 put-word-requires-2 c κs = search needs
 
 lead-to-requires : tie.Need-lead-to-requires
-lead-to-requires c κs = let pre = c .before .before .before .before .before .before .before .before .before .before .before .before .before .before .before .before .before .before .before .before .before .before .pre in let tall = pre .sized .tall in
-    (tall, record { each = λ l h. omega (arith, pre .inside .each l (omega (arith, h, tall)), c .before .before .before .before .put-word2 .ensures, c .before .before .before .before .before .before .before .before .put-node .ensures, c .before .before .before .before .before .before .before .before .before .before .before .before .before .put-word .ensures) })
+lead-to-requires c κs =
+    let node = c .before .before .before .before .before .before .before .before in
+    let start = node .before .before .before .before .before .before .before .before .before .before .before .before .before .before in
+    let tall = start .pre .sized .tall in
+    let slot = c .before .before .before .before .put-word2 .ensures in
+    let free = node .before .before .before .before .before .put-word .ensures in
+    (tall, record { each = λ l h. omega (arith, start .pre .inside .each l (omega (arith, h, tall)), slot, node .put-node .ensures, free) })
 
 put-word-requires-3 : tie.Need-put-word-requires-3
-put-word-requires-3 c κs = let within = c .before .before .before .before .before .before .before .before .before .before .before .before .before .before .before .before .before .before .before .before .before .before .before .before .before .before .pre .sized .within in omega (arith, within .low, within .high, c .before .before .before .lead-to .ensures)
+put-word-requires-3 c κs =
+    let lead = c .before .before .before in
+    let within = lead .before .before .before .before .before .before .before .before .before .before .before .before .before .before .before .before .before .before .before .before .before .before .before .pre .sized .within in
+    omega (arith, within .low, within .high, lead .lead-to .ensures)
 
 same-length : tie.Need-same-length
 same-length c = search needs

@@ -27,7 +27,11 @@ enum-known-c : tie.Need-enum-known-c
 enum-known-c c = search needs
 
 entry-after-requires : tie.Need-entry-after-requires
-entry-after-requires c κs = let i = rw (c .before .before .before .before .test2 .given .1) at (c .before .before .before .before .before .before .test-cursor .ensures) in let j = rw (c .before .c .given .1) at (i .1) in search needs
+entry-after-requires c κs =
+    let test2 = c .before .before .before .before .test2 in let test-cursor = c .before .before .before .before .before .before .test-cursor in
+    let i = rw (test2 .given .1) at (test-cursor .ensures) in
+    let j = rw (c .before .c .given .1) at (i .1) in
+    search needs
 
 end-move-requires-2 : tie.Need-end-move-requires-2
 end-move-requires-2 c κs = search needs

@@ -15,7 +15,10 @@ returns-2 : tie.Need-returns-2
 returns-2 c = search needs
 
 node-of-requires : tie.Need-node-of-requires
-node-of-requires c κs = let at = rw (c .before .before .neighbour .given .1) at (c .before .before .before .before .before .pre) in record { within = at .0 .within; least = c .if1 .left; most = at .0 .most }
+node-of-requires c κs =
+    let neighbour = c .before .before .neighbour in let pre = c .before .before .before .before .before .pre in
+    let at = rw (neighbour .given .1) at (pre) in
+    record { within = at .0 .within; least = c .if1 .left; most = at .0 .most }
 
 enum-told-2 : tie.Need-enum-told-2
 enum-told-2 c = search needs

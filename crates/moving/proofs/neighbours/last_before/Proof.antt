@@ -21,10 +21,16 @@ returns : tie.Need-returns
 returns c = search needs
 
 returns-2 : tie.Need-returns-2
-returns-2 c = let at = rw (c .before .spot .given .1) at (c .before .before .before .search .ensures .spot) in (record { within = c .before .before .before .before .before .before .pre; most = omega arith }, at .2, λ e. absurd (true≢false (sym e)))
+returns-2 c =
+    let found = c .before .before .before .search in let pre = c .before .before .before .before .before .before .pre in
+    let at = rw (c .before .spot .given .1) at (found .ensures .spot) in
+    (record { within = pre; most = omega arith }, at .2, λ e. absurd (true≢false (sym e)))
 
 returns-3 : tie.Need-returns-3
-returns-3 c = let at = rw (c .before .spot2 .given .1) at (c .before .before .before .search .ensures .spot) in (record { within = c .before .before .before .before .before .before .pre; most = at .0 }, at .2, λ e. absurd (true≢false (sym e)))
+returns-3 c =
+    let found = c .before .before .before .search in let pre = c .before .before .before .before .before .before .pre in
+    let at = rw (c .before .spot2 .given .1) at (found .ensures .spot) in
+    (record { within = pre; most = at .0 }, at .2, λ e. absurd (true≢false (sym e)))
 
 pub last-before-spec : {M : Type 1} → statement M
 last-before-spec =

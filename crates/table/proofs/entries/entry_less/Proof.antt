@@ -25,7 +25,10 @@ is-less-requires : tie.Need-is-less-requires
 is-less-requires c κs = search needs
 
 returns : tie.Need-returns
-returns c = let a = c .before .before .before .before .before .before .before .before .before .args in c .is-less .ensures ∙ less-by (a .s .now) (keyedOf (a .a)) (keyedOf (a .b)) (c .before .before .before .before .before .key-in .ensures) (c .before .before .before .before .number .ensures) (c .before .before .before .key-in2 .ensures) (c .before .before .number2 .ensures) (c .before .compare-entries .ensures)
+returns c =
+    let number2 = c .before .before .number2 in let key-in2 = c .before .before .before .key-in2 in let number = c .before .before .before .before .number in
+    let key-in = c .before .before .before .before .before .key-in in let a = c .before .before .before .before .before .before .before .before .before .args in
+    c .is-less .ensures ∙ less-by (a .s .now) (keyedOf (a .a)) (keyedOf (a .b)) (key-in .ensures) (number .ensures) (key-in2 .ensures) (number2 .ensures) (c .before .compare-entries .ensures)
 
 pub entry-less-spec : {M : Type 1} → statement M
 entry-less-spec =

@@ -24,7 +24,10 @@ returns-2 : tie.Need-returns-2
 returns-2 c = let a = c .before .before .before .before .before .args in span-refused (a .s .now) (cursorIs (a .c)) (c .before .before .before .parts-on .ensures) (c .before .parts .given .1) keySpan
 
 returns-3 : tie.Need-returns-3
-returns-3 c = let a = c .before .before .before .before .before .before .args in span-key (a .s .now) (cursorIs (a .c)) (c .before .before .before .before .parts-on .ensures) _ (c .before .before .parts2 .given .1)
+returns-3 c =
+    let parts2 = c .before .before .parts2 in let parts-on = c .before .before .before .before .parts-on in
+    let a = c .before .before .before .before .before .before .args in
+    span-key (a .s .now) (cursorIs (a .c)) (parts-on .ensures) _ (parts2 .given .1)
 
 pub entry-key-span-spec : {M : Type 1} → statement M
 entry-key-span-spec =

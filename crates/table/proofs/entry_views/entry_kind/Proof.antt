@@ -13,13 +13,18 @@ enum-known-p : tie.Need-enum-known-p
 enum-known-p c = search needs
 
 returns : tie.Need-returns
-returns c = let a = c .before .before .before .args in bare-number (a .s .now) (cursorIs (a .c)) (c .before .parts-on .result) (c .before .parts-on .ensures) (bare-else (c .before .parts-on .result) (c .match .keys2)) kindIn
+returns c =
+    let a = c .before .before .before .args in
+    bare-number (a .s .now) (cursorIs (a .c)) (c .before .parts-on .result) (c .before .parts-on .ensures) (bare-else (c .before .parts-on .result) (c .match .keys2)) kindIn
 
 kind-requires : tie.Need-kind-requires
 kind-requires c κs = search needs
 
 returns-2 : tie.Need-returns-2
-returns-2 c = let a = c .before .before .before .before .before .before .before .args in c .kind .ensures ∙ shown-number (a .s .now) (cursorIs (a .c)) (c .before .before .before .before .before .parts-on .result) (c .before .before .before .before .before .parts-on .ensures) _ (c .before .before .before .p .given .1) kindIn
+returns-2 c =
+    let p = c .before .before .before .p in let parts-on = c .before .before .before .before .before .parts-on in
+    let a = c .before .before .before .before .before .before .before .args in
+    c .kind .ensures ∙ shown-number (a .s .now) (cursorIs (a .c)) (parts-on .result) (parts-on .ensures) _ (p .given .1) kindIn
 
 pub entry-kind-spec : {M : Type 1} → statement M
 entry-kind-spec =

@@ -24,13 +24,20 @@ number-requires : tie.Need-number-requires
 number-requires c κs = search needs
 
 returns : tie.Need-returns
-returns c = let a = c .before .before .before .before .args in sym (ap (λ (r : PartsOn). refusalOf (partsOnAs r)) (c .enum-told .given .1)) ∙ refusal-is (a .s .now) (cursorIs (a .c)) (c .before .before .parts-on .result) (c .before .before .parts-on .ensures)
+returns c =
+    let parts-on = c .before .before .parts-on in let a = c .before .before .before .before .args in
+    sym (ap (λ (r : PartsOn). refusalOf (partsOnAs r)) (c .enum-told .given .1)) ∙ refusal-is (a .s .now) (cursorIs (a .c)) (parts-on .result) (parts-on .ensures)
 
 returns-2 : tie.Need-returns-2
-returns-2 c = let a = c .before .before .before .before .args in sym (ap (λ (r : PartsOn). refusalOf (partsOnAs r)) (c .enum-told2 .given .1)) ∙ refusal-is (a .s .now) (cursorIs (a .c)) (c .before .before .parts-on .result) (c .before .before .parts-on .ensures)
+returns-2 c =
+    let parts-on = c .before .before .parts-on in let a = c .before .before .before .before .args in
+    sym (ap (λ (r : PartsOn). refusalOf (partsOnAs r)) (c .enum-told2 .given .1)) ∙ refusal-is (a .s .now) (cursorIs (a .c)) (parts-on .result) (parts-on .ensures)
 
 returns-3 : tie.Need-returns-3
-returns-3 c = let a = c .before .before .before .before .before .before .args in c .number .ensures ∙ sym (ap (λ (r : PartsOn). refusalOf (partsOnAs r)) (c .before .before .parts .given .1)) ∙ refusal-is (a .s .now) (cursorIs (a .c)) (c .before .before .before .before .parts-on .result) (c .before .before .before .before .parts-on .ensures)
+returns-3 c =
+    let parts = c .before .before .parts in let parts-on = c .before .before .before .before .parts-on in
+    let a = c .before .before .before .before .before .before .args in
+    c .number .ensures ∙ sym (ap (λ (r : PartsOn). refusalOf (partsOnAs r)) (parts .given .1)) ∙ refusal-is (a .s .now) (cursorIs (a .c)) (parts-on .result) (parts-on .ensures)
 
 pub entry-refusal-spec : {M : Type 1} → statement M
 entry-refusal-spec =

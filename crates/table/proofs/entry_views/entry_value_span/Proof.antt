@@ -21,16 +21,24 @@ kind-requires : tie.Need-kind-requires
 kind-requires c κs = search needs
 
 returns : tie.Need-returns
-returns c = let a = c .before .before .before .before .before .before .before .before .args in span-deletion (a .s .now) (cursorIs (a .c)) (c .before .before .before .before .before .before .parts-on .ensures) _ (c .before .before .before .before .parts2 .given .1) (c .before .kind .ensures) (c .if1 .taken)
+returns c =
+    let parts2 = c .before .before .before .before .parts2 in let parts-on = c .before .before .before .before .before .before .parts-on in
+    let a = c .before .before .before .before .before .before .before .before .args in
+    span-deletion (a .s .now) (cursorIs (a .c)) (parts-on .ensures) _ (parts2 .given .1) (c .before .kind .ensures) (c .if1 .taken)
 
 returns-2 : tie.Need-returns-2
 returns-2 c = let a = c .before .before .before .before .args in span-nowhere (a .s .now) (cursorIs (a .c)) (c .before .before .parts-on .ensures) (c .enum-told .given .1) valueSpan
 
 returns-3 : tie.Need-returns-3
-returns-3 c = let a = c .before .before .before .before .before .args in span-refused (a .s .now) (cursorIs (a .c)) (c .before .before .before .parts-on .ensures) (c .before .parts .given .1) valueSpan
+returns-3 c =
+    let parts-on = c .before .before .before .parts-on in let a = c .before .before .before .before .before .args in
+    span-refused (a .s .now) (cursorIs (a .c)) (parts-on .ensures) (c .before .parts .given .1) valueSpan
 
 returns-4 : tie.Need-returns-4
-returns-4 c = let a = c .before .before .before .before .before .before .before .before .args in span-value (a .s .now) (cursorIs (a .c)) (c .before .before .before .before .before .before .parts-on .ensures) _ (c .before .before .before .before .parts2 .given .1) (c .before .kind .ensures) (c .if1 .left)
+returns-4 c =
+    let parts2 = c .before .before .before .before .parts2 in let parts-on = c .before .before .before .before .before .before .parts-on in
+    let a = c .before .before .before .before .before .before .before .before .args in
+    span-value (a .s .now) (cursorIs (a .c)) (parts-on .ensures) _ (parts2 .given .1) (c .before .kind .ensures) (c .if1 .left)
 
 pub entry-value-span-spec : {M : Type 1} → statement M
 entry-value-span-spec =

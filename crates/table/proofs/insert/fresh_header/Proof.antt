@@ -23,7 +23,12 @@ same-length : tie.Need-same-length
 same-length c = search needs
 
 returns : tie.Need-returns
-returns c = header-written _ _ _ _ _ _ _ _ refl (c .before .before .before .before .before .before .before .before .before .before .before .before .before .before .before .before .before .before .before .put-word .ensures) (c .before .before .before .before .before .before .before .before .before .before .before .before .before .before .before .put-word2 .ensures) (c .before .before .before .before .before .before .before .before .before .before .before .put-word3 .ensures) (c .before .before .before .before .before .before .before .put-word4 .ensures) refl (c .before .before .put-links .ensures)
+returns c =
+    let put-links = c .before .before .put-links in let put-word4 = c .before .before .before .before .before .before .before .put-word4 in
+    let put-word3 = c .before .before .before .before .before .before .before .before .before .before .before .put-word3 in
+    let put-word2 = c .before .before .before .before .before .before .before .before .before .before .before .before .before .before .before .put-word2 in
+    let put-word = c .before .before .before .before .before .before .before .before .before .before .before .before .before .before .before .before .before .before .before .put-word in
+    header-written _ _ _ _ _ _ _ _ refl (put-word .ensures) (put-word2 .ensures) (put-word3 .ensures) (put-word4 .ensures) refl (put-links .ensures)
 
 pub fresh-header-spec : {M : Type 1} → statement M
 fresh-header-spec =

@@ -33,7 +33,10 @@ loop-less : tie.Need-loop-less Inv-loop μ-loop
 loop-less c = search needs
 
 loop-again : tie.Need-loop-again Inv-loop μ-loop
-loop-again c = let turn = c .before .before .before .before .before .before .loop in (omega arith, ap length (c .before .before .put-word .ensures) ∙ length-putWord _ _ _ ∙ turn .inv .1, putWords-next _ _ _ _ _ _ (turn .inv .2) (c .before .before .put-word .ensures))
+loop-again c =
+    let put-word = c .before .before .put-word in let loop = c .before .before .before .before .before .before .loop in
+    let turn = loop in
+    (omega arith, ap length (put-word .ensures) ∙ length-putWord _ _ _ ∙ turn .inv .1, putWords-next _ _ _ _ _ _ (turn .inv .2) (put-word .ensures))
 
 same-length : tie.Need-same-length Inv-loop μ-loop
 same-length c = c .before .loop .inv .1

@@ -54,7 +54,10 @@ put-word-requires-2 : tie.Need-put-word-requires-2
 put-word-requires-2 c κs = search needs
 
 lead-to-requires : tie.Need-lead-to-requires
-lead-to-requires c κs = let p = c .before .before .before .before .before .before .before .before .before .before .before .before .before .before .before .before .before .before .before .before .before .before .pre .places-inside in record { height-most = p .height-most; inside = λ l k. omega (arith, p .inside l k) }
+lead-to-requires c κs =
+    let pre = c .before .before .before .before .before .before .before .before .before .before .before .before .before .before .before .before .before .before .before .before .before .before .pre in
+    let p = pre .places-inside in
+    record { height-most = p .height-most; inside = λ l k. omega (arith, p .inside l k) }
 
 put-word-requires-3 : tie.Need-put-word-requires-3
 put-word-requires-3 c κs = search needs
@@ -63,11 +66,20 @@ same-length : tie.Need-same-length
 same-length c = search needs
 
 returns : tie.Need-returns
-returns c = let a = c .before .before .before .before .before .before .before .before .before .before .before .before .before .before .before .before .before .before .before .before .before .before .before .before .before .before .before .before .before .args in let pre = c .before .before .before .before .before .before .before .before .before .before .before .before .before .before .before .before .before .before .before .before .before .before .before .before .before .before .before .before .before .pre in let used = a .f .free in let e = entry (a .key .now) (a .number) (a .kind) (a .value .now) in
-    let size = c .before .before .before .before .before .before .before .before .before .before .before .before .before .before .before .before .before .before .before .before .before .before .entry-size .ensures .is e refl refl in let done = c .before .before .before .before .before .before .before .before .before .before .before .before .before .before .before .put-node in (
+returns c =
+    let node = c .before .before .before .before .before .before .before .before .before .before .before .before .before .before .before in
+    let start = node .before .before .before .before .before .before .before .before .before .before .before .before .before .before in
+    let a = start .args in
+    let used = a .f .free in
+    let e = entry (a .key .now) (a .number) (a .kind) (a .value .now) in
+    let size = node .before .before .before .before .before .before .before .entry-size .ensures .is e refl refl in
+    let links = node .before .before .before .before .before .before .before .before .before .read-links in
+    let free = node .before .before .before .before .before .put-word .ensures in
+    let slot = c .before .before .before .before .before .before .before .before .before .before .before .put-word2 .ensures in
+    let lead = c .before .before .before .before .before .before .lead-to .ensures in (
       refl,
-      entry-put-in (a .s .now) (a .height) (a .f .count) used _ e _ (c .before .before .before .before .before .before .before .before .before .before .before .before .before .before .before .before .before .before .before .before .before .before .before .before .read-links .result) _ _ _ _ _ (omega (arith, pre .room)) size (c .before .before .before .before .before .before .before .before .before .before .before .before .before .before .before .before .before .before .before .before .before .before .before .before .read-links .ensures) (c .before .before .before .before .before .before .before .before .before .before .before .before .before .before .before .before .before .before .before .before .put-word .ensures)
-          (tail-back _ used (done .last .0) ∙ rw (done .ensures, tail-lent _ used)) (c .before .before .before .before .before .before .before .before .before .before .before .put-word2 .ensures) (c .before .before .before .before .before .before .lead-to .ensures) (c .before .before .put-word3 .ensures),
+      entry-put-in (a .s .now) (a .height) (a .f .count) used _ e _ (links .result) _ _ _ _ _ (omega (arith, start .pre .room)) size (links .ensures) free
+          (tail-back _ used (node .put-node .last .0) ∙ rw (node .put-node .ensures, tail-lent _ used)) slot lead (c .before .before .put-word3 .ensures),
     )
 
 pub put-in-spec : {M : Type 1} → statement M

@@ -30,8 +30,14 @@ same-length : tie.Need-same-length
 same-length c = search needs
 
 returns : tie.Need-returns
-returns c = let a = c .before .before .before .before .before .before .before .before .before .before .before .before .before .before .before .before .before .before .before .before .args in let e = entry (a .key .now) (a .number) (a .kind) (a .value .now) in
-    node-put-together (a .free .now) (a .height) _ e (a .links .now) _ _ _ _ (c .before .before .before .before .before .before .before .before .before .before .before .before .before .before .before .before .entry-size .ensures .is e refl refl) (c .before .before .before .before .before .before .before .before .before .before .before .before .before .before .put-word .ensures) (c .before .before .before .before .before .before .before .before .before .before .put-word2 .ensures) (c .before .before .before .before .before .before .put-links .ensures) (c .before .before .put-entry .ensures)
+returns c =
+    let put-entry = c .before .before .put-entry in let put-links = c .before .before .before .before .before .before .put-links in
+    let put-word2 = c .before .before .before .before .before .before .before .before .before .before .put-word2 in
+    let put-word = c .before .before .before .before .before .before .before .before .before .before .before .before .before .before .put-word in
+    let entry-size = c .before .before .before .before .before .before .before .before .before .before .before .before .before .before .before .before .entry-size in
+    let a = c .before .before .before .before .before .before .before .before .before .before .before .before .before .before .before .before .before .before .before .before .args in
+    let e = entry (a .key .now) (a .number) (a .kind) (a .value .now) in
+    node-put-together (a .free .now) (a .height) _ e (a .links .now) _ _ _ _ (entry-size .ensures .is e refl refl) (put-word .ensures) (put-word2 .ensures) (put-links .ensures) (put-entry .ensures)
 
 pub put-node-spec : {M : Type 1} → statement M
 put-node-spec =

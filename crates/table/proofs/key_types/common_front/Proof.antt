@@ -43,10 +43,16 @@ loop-less : tie.Need-loop-less Inv-loop μ-loop
 loop-less c = search needs
 
 loop-again : tie.Need-loop-again Inv-loop μ-loop
-loop-again c = let same = sym (c .before .before .get-u64 .ensures) ∙ c .if2 .left ∙ c .before .get-u642 .ensures in
-    let known = c .before .before .before .before .before .before .before .shared-slice-known in let known2 = c .before .before .before .before .before .before .shared-slice-known2 in
-    let bytes = same-bytes 8 (c .before .before .before .before .before .before .before .before .args .a .now) (c .before .before .before .before .before .before .before .before .args .b .now) (c .before .before .before .before .before .loop .i) (λ i. known .given i .fits) (λ i. known2 .given i .fits) (omega (arith, c .before .before .before .before .loop-test .taken)) (omega (arith, c .before .before .before .if1 .left)) same in
-    (search needs, search needs, c .before .before .before .before .before .loop .inv .2 ∙ bytes)
+loop-again c =
+    let get-u64 = c .before .before .get-u64 in let if1 = c .before .before .before .if1 in let loop-test = c .before .before .before .before .loop-test in
+    let loop = c .before .before .before .before .before .loop in let shared-slice-known2 = c .before .before .before .before .before .before .shared-slice-known2 in
+    let shared-slice-known = c .before .before .before .before .before .before .before .shared-slice-known in
+    let args = c .before .before .before .before .before .before .before .before .args in
+    let same = sym (get-u64 .ensures) ∙ c .if2 .left ∙ c .before .get-u642 .ensures in
+    let known = shared-slice-known in
+    let known2 = shared-slice-known2 in
+    let bytes = same-bytes 8 (args .a .now) (args .b .now) (loop .i) (λ i. known .given i .fits) (λ i. known2 .given i .fits) (omega (arith, loop-test .taken)) (omega (arith, if1 .left)) same in
+    (search needs, search needs, loop .inv .2 ∙ bytes)
 
 returns-3 : tie.Need-returns-3 Inv-loop μ-loop
 returns-3 c = let l = c .before .loop .inv in front-left _ _ _ (l .0) (l .1) (l .2)

@@ -16,7 +16,10 @@ enum-known-read : tie.Need-enum-known-read
 enum-known-read c = search needs
 
 key-in-requires : tie.Need-key-in-requires
-key-in-requires c κs = let a = c .before .before .before .before .before .before .before .args in (parts-inside (a .s .now) (a .node) (c .before .before .before .before .before .before .before .pre .framed .header) (rw (c .before .before .before .read .given .1) at (c .before .before .before .before .before .node-of .ensures))) .0
+key-in-requires c κs =
+    let read = c .before .before .before .read in let node-of = c .before .before .before .before .before .node-of in
+    let a = c .before .before .before .before .before .before .before .args in let pre = c .before .before .before .before .before .before .before .pre in
+    (parts-inside (a .s .now) (a .node) (pre .framed .header) (rw (read .given .1) at (node-of .ensures))) .0
 
 number-requires : tie.Need-number-requires
 number-requires c κs = search needs
@@ -31,8 +34,13 @@ returns : tie.Need-returns
 returns c = let a = c .before .before .before .before .args in previous-damaged (a .s .now) (a .node) (rw (c .enum-told .given .1) at (c .before .before .node-of .ensures))
 
 returns-2 : tie.Need-returns-2
-returns-2 c = let a = c .before .before .before .before .before .before .before .before .before .before .before .args in let node = rw (c .before .before .before .before .before .before .before .read .given .1) at (c .before .before .before .before .before .before .before .before .before .node-of .ensures) in
-    previous-searches (a .s .now) (a .node) node (c .before .before .before .key-in .ensures) (c .before .before .number .ensures) (lands-passed (a .s .now) (c .land .ensures) _ _ (c .before .last-before .ensures .exact))
+returns-2 c =
+    let number = c .before .before .number in let key-in = c .before .before .before .key-in in
+    let read = c .before .before .before .before .before .before .before .read in
+    let node-of = c .before .before .before .before .before .before .before .before .before .node-of in
+    let a = c .before .before .before .before .before .before .before .before .before .before .before .args in
+    let node = rw (read .given .1) at (node-of .ensures) in
+    previous-searches (a .s .now) (a .node) node (key-in .ensures) (number .ensures) (lands-passed (a .s .now) (c .land .ensures) _ _ (c .before .last-before .ensures .exact))
 
 pub entry-before-spec : {M : Type 1} → statement M
 entry-before-spec =

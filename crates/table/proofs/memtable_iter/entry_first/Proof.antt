@@ -28,8 +28,12 @@ returns : tie.Need-returns
 returns c = move-refused _ _ _ (c .before .before .before .test-cursor .ensures) (c .before .test .given .1)
 
 returns-2 : tie.Need-returns-2
-returns-2 c = let leads = lands-first (c .before .before .before .before .before .before .before .before .args .s .now) (c .before .land .ensures) (c .before .before .first-node .ensures .exact) in
-    move-made _ _ _ (c .before .before .before .before .before .before .test-cursor .ensures) (c .before .before .before .before .test2 .given .1) (λ a. refl) _ (c .end-move .ensures .0) refl (c .end-move .ensures .1) leads
+returns-2 c =
+    let first-node = c .before .before .first-node in let test2 = c .before .before .before .before .test2 in
+    let test-cursor = c .before .before .before .before .before .before .test-cursor in
+    let args = c .before .before .before .before .before .before .before .before .args in
+    let leads = lands-first (args .s .now) (c .before .land .ensures) (first-node .ensures .exact) in
+    move-made _ _ _ (test-cursor .ensures) (test2 .given .1) (λ a. refl) _ (c .end-move .ensures .0) refl (c .end-move .ensures .1) leads
 
 pub entry-first-spec : {M : Type 1} → statement M
 entry-first-spec =

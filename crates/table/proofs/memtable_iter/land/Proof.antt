@@ -26,10 +26,16 @@ enum-told-3 : tie.Need-enum-told-3
 enum-told-3 c = search needs
 
 returns-3 : tie.Need-returns-3
-returns-3 c = land-bad (c .before .before .before .before .before .before .before .before .args .s .now) (c .before .before .before .before .before .neighbour .given .1) (c .before .before .before .if1 .left) (rw (c .enum-told2 .given .1) at (c .before .before .node-of .ensures))
+returns-3 c =
+    let node-of = c .before .before .node-of in let if1 = c .before .before .before .if1 in let neighbour = c .before .before .before .before .before .neighbour in
+    let args = c .before .before .before .before .before .before .before .before .args in
+    land-bad (args .s .now) (neighbour .given .1) (if1 .left) (rw (c .enum-told2 .given .1) at (node-of .ensures))
 
 returns-4 : tie.Need-returns-4
-returns-4 c = land-on (c .before .before .before .before .before .before .before .before .args .s .now) (c .before .before .before .before .before .neighbour .given .1) (c .before .before .before .if1 .left) (rw (c .enum-told3 .given .1) at (c .before .before .node-of .ensures))
+returns-4 c =
+    let node-of = c .before .before .node-of in let if1 = c .before .before .before .if1 in let neighbour = c .before .before .before .before .before .neighbour in
+    let args = c .before .before .before .before .before .before .before .before .args in
+    land-on (args .s .now) (neighbour .given .1) (if1 .left) (rw (c .enum-told3 .given .1) at (node-of .ensures))
 
 pub land-spec : {M : Type 1} → statement M
 land-spec =

@@ -14,7 +14,10 @@ enum-told : tie.Need-enum-told
 enum-told c = search needs
 
 returns : tie.Need-returns
-returns c = let known = c .before .before .before .before .shared-slice-known in nears _ _ _ _ (λ i. known .given i .fits) (near-header _ _ _ (rw (c .enum-told .given .1) at (c .before .before .read-frame .ensures)))
+returns c =
+    let read-frame = c .before .before .read-frame in let shared-slice-known = c .before .before .before .before .shared-slice-known in
+    let known = shared-slice-known in
+    nears _ _ _ _ (λ i. known .given i .fits) (near-header _ _ _ (rw (c .enum-told .given .1) at (read-frame .ensures)))
 
 behind-requires : tie.Need-behind-requires
 behind-requires c κs = rw (c .before .f .given .1) at (c .before .before .before .read-frame .ensures)
@@ -26,8 +29,13 @@ hit-at-requires : tie.Need-hit-at-requires
 hit-at-requires c κs = search needs
 
 returns-2 : tie.Need-returns-2
-returns-2 c = let known = c .before .before .before .before .before .before .before .before .shared-slice-known in let leads = c .hit-at .ensures ∙ c .before .land .ensures ∙ c .before .before .behind .ensures .exact in
-    nears _ _ _ _ (λ i. known .given i .fits) (near-at _ (rw (c .before .before .before .before .f .given .1) at (c .before .before .before .before .before .before .read-frame .ensures)) _ _ leads)
+returns-2 c =
+    let behind = c .before .before .behind in let frame = c .before .before .before .before .f in
+    let read-frame = c .before .before .before .before .before .before .read-frame in
+    let shared-slice-known = c .before .before .before .before .before .before .before .before .shared-slice-known in
+    let known = shared-slice-known in
+    let leads = c .hit-at .ensures ∙ c .before .land .ensures ∙ behind .ensures .exact in
+    nears _ _ _ _ (λ i. known .given i .fits) (near-at _ (rw (frame .given .1) at (read-frame .ensures)) _ _ leads)
 
 pub near-spec : {M : Type 1} → statement M
 near-spec =
