@@ -10,26 +10,17 @@ use crate::text::byte;
 use crate::text::part;
 use crate::text::rest;
 
-// What stands behind the key: number, type, and whether they are well formed.
-pub struct Stamp {
+// What a word asks for, if it is well formed: how many bytes the key has, number and type.
+pub struct Wanted {
     pub formed: bool,
+    pub len: usize,
     pub number: u64,
     pub kind: u8,
 }
 
-// The key.
-pub fn key(s: &[u8], out: &mut [u8]) -> Taken {
-    bytes(before(s, b'@'), out)
-}
-
-// From the number on.
-fn tail(s: &[u8]) -> &[u8] {
-    after(s, b'@')
-}
-
 // From the type on.
 fn typed(s: &[u8]) -> &[u8] {
-    let t = tail(s);
+    let t = after(s, b'@');
     rest(t, digits(t))
 }
 
@@ -51,45 +42,34 @@ pub fn value(s: &[u8], out: &mut [u8]) -> Taken {
     bytes(v, out)
 }
 
-// The type that a number names, or the largest one.
-fn kind_of(n: u64) -> u8 {
-    if n > 255 { 255 } else { n as u8 }
+// The type that is written behind ~, or more than a type can be.
+fn kind_number(t: &[u8]) -> u64 {
+    let k = number(before(rest(t, 1), b'='));
+    if k.formed { k.value } else { 256 }
 }
 
-// The number alone: a snapshot, or where a seek goes.
-pub fn snapshot(s: &[u8]) -> Stamp {
-    let n = number(tail(s));
-    Stamp {
-        formed: n.formed,
-        number: n.value,
-        kind: 0,
-    }
-}
-
-// The number with a type.
-fn with_kind(s: &[u8], formed: bool, kind: u8) -> Stamp {
-    let t = tail(s);
-    let n = number(part(t, 0, digits(t)));
-    if !formed {
-        return snapshot(b"");
-    }
-    Stamp {
-        formed: n.formed,
-        number: n.value,
-        kind,
-    }
-}
-
-// Number and type.
-pub fn numbered(s: &[u8]) -> Stamp {
-    let t = typed(s);
+// The type by its mark, or more than a type can be.
+fn kind(t: &[u8]) -> u64 {
     match byte(t, 0) {
-        b'=' => with_kind(s, true, 1),
-        b'-' => with_kind(s, true, 0),
-        b'~' => {
-            let k = number(before(rest(t, 1), b'='));
-            with_kind(s, k.formed, kind_of(k.value))
-        }
-        _ => with_kind(s, false, 0),
+        b'=' => 1,
+        b'-' => 0,
+        b'~' => kind_number(t),
+        _ => 256,
+    }
+}
+
+// A key with a number, and with a type where one is to be there.
+pub fn asked(s: &[u8], with_kind: bool, out: &mut [u8]) -> Wanted {
+    let key = bytes(before(s, b'@'), out);
+    let t = after(s, b'@');
+    let n = number(part(t, 0, digits(t)));
+    let k = kind(typed(s));
+    let bare = typed(s).len() < 1;
+    let fits = (k < 256) == with_kind;
+    Wanted {
+        formed: key.formed & n.formed & fits & (bare != with_kind),
+        len: key.len,
+        number: n.value,
+        kind: if k < 256 { k as u8 } else { 0 },
     }
 }

@@ -3,9 +3,10 @@ use crate::entry;
 use crate::ops;
 use crate::put;
 use crate::show;
+use crate::state;
+use crate::state::UNCLEAR;
 use crate::text::part;
 use crate::text::word;
-use crate::world::World;
 use capi::entry_iter::BavoEntryCursor;
 use capi::entry_iter::BavoEntryMoved;
 use capi::entry_iter::bavo_entry_first;
@@ -17,16 +18,15 @@ use capi::entry_iter::bavo_entry_prev;
 use capi::entry_iter::bavo_entry_refusal;
 use capi::entry_iter::bavo_entry_seek;
 use capi::entry_iter::bavo_entry_value;
+use capi::memtable::BavoView;
+
+// More than a refusal's number: the line is none.
+const NO_LINE: u32 = 99;
 
 // A value behind its mark; an empty one of a deletion is not written.
-fn value(out: &mut [u8], at: usize, image: &[u8], c: BavoEntryCursor) -> usize {
-    let v = bavo_entry_value(image, c);
-    if bavo_entry_kind(image, c) == 1 {
-        let end = put::text(out, at, b"=");
-        return show::view(out, end, image, v);
-    }
-    let end = put::text(out, at, b"-");
-    if v.length < 1 {
+fn value(out: &mut [u8], at: usize, image: &[u8], kind: u8, v: BavoView) -> usize {
+    let end = put::byte(out, at, if kind == 1 { b'=' } else { b'-' });
+    if (kind == 0) & (v.length < 1) {
         return end;
     }
     show::view(out, end, image, v)
@@ -35,10 +35,11 @@ fn value(out: &mut [u8], at: usize, image: &[u8], c: BavoEntryCursor) -> usize {
 // The entry at a cursor, as document 01 writes it, and its node.
 fn entry_at(out: &mut [u8], image: &[u8], c: BavoEntryCursor) -> usize {
     let end = show::view(out, 0, image, bavo_entry_key(image, c));
-    let end = put::text(out, end, b"@");
+    let end = put::byte(out, end, b'@');
     let end = put::number(out, end, bavo_entry_number(image, c));
-    let end = value(out, end, image, c);
-    put::counted(out, end, b" node ", c.node)
+    let kind = bavo_entry_kind(image, c);
+    let end = value(out, end, image, kind, bavo_entry_value(image, c));
+    show::place(out, end, 0, c.node)
 }
 
 // Where a move led.
@@ -56,60 +57,65 @@ fn led(out: &mut [u8], image: &[u8], r: BavoEntryMoved) -> usize {
     entry_at(out, image, c)
 }
 
-// The table has the cursor that a move hands back.
-fn moved(r: BavoEntryMoved, image: &[u8], w: World, second: bool, out: &mut [u8]) -> World {
-    let end = led(out, image, r);
-    w.with_entry_cursor(second, r.on, r.node).told(end)
+// To an entry at or after a key and a number.
+fn sought(s: &[u8], image: &[u8], c: BavoEntryCursor) -> BavoEntryMoved {
+    let mut space = [0u8; 4200];
+    let asked = entry::asked(s, false, &mut space);
+    if !asked.formed {
+        return BavoEntryMoved {
+            refusal: NO_LINE,
+            on: 0,
+            node: 0,
+        };
+    }
+    bavo_entry_seek(image, c, part(&space, 0, asked.len), asked.number)
 }
 
-// To an entry at or after a key and a number.
-fn seek(call: &[u8], image: &[u8], w: World, second: bool, out: &mut [u8]) -> World {
-    let asked = word(call, 2);
-    let mut space = [0u8; 4200];
-    let key = entry::key(asked, &mut space);
-    let at = entry::snapshot(asked);
-    if !key.formed {
-        return w.unclear();
+fn moved(op: usize, call: &[u8], image: &[u8], c: BavoEntryCursor) -> BavoEntryMoved {
+    match op {
+        ops::ENTRY_FIRST => bavo_entry_first(image, c),
+        ops::ENTRY_SEEK => sought(word(call, 2), image, c),
+        ops::ENTRY_NEXT => bavo_entry_next(image, c),
+        _ => bavo_entry_prev(image, c),
     }
-    if !at.formed {
-        return w.unclear();
+}
+
+// A number at the cursor: that of the entry, its type, or the companion's.
+fn number_of(op: usize, image: &[u8], c: BavoEntryCursor) -> u64 {
+    match op {
+        ops::ENTRY_NUMBER => bavo_entry_number(image, c),
+        ops::ENTRY_KIND => bavo_entry_kind(image, c) as u64,
+        _ => bavo_entry_refusal(image, c) as u64,
     }
-    let r = bavo_entry_seek(
-        image,
-        w.entry_at(second),
-        part(&space, 0, key.len),
-        at.number,
-    );
-    moved(r, image, w, second, out)
 }
 
 // The views at the cursor.
 fn shown(op: usize, image: &[u8], c: BavoEntryCursor, out: &mut [u8]) -> usize {
-    match op {
-        ops::ENTRY_KEY => show::view_at(out, image, bavo_entry_key(image, c)),
-        ops::ENTRY_VALUE => show::view_at(out, image, bavo_entry_value(image, c)),
-        ops::ENTRY_NUMBER => put::number(out, 0, bavo_entry_number(image, c)),
-        ops::ENTRY_KIND => put::number(out, 0, bavo_entry_kind(image, c) as u64),
-        ops::ENTRY_REFUSAL => put::number(out, 0, bavo_entry_refusal(image, c) as u64),
-        _ => 0,
+    if op == ops::ENTRY_KEY {
+        return show::view_at(out, image, 0, bavo_entry_key(image, c));
     }
+    if op == ops::ENTRY_VALUE {
+        return show::view_at(out, image, 0, bavo_entry_value(image, c));
+    }
+    put::number(out, 0, number_of(op, image, c))
 }
 
-// Whether a call is one of these.
-pub fn is_mine(op: usize) -> bool {
-    if op < ops::ENTRY_FIRST {
-        return false;
+pub fn ask(
+    op: usize,
+    call: &[u8],
+    t: usize,
+    image: &[u8],
+    state: &mut [usize; 10],
+    out: &mut [u8],
+) -> usize {
+    let c = state::entry_cursor(state, t);
+    if op > ops::ENTRY_PREV {
+        return shown(op, image, c, out);
     }
-    op <= ops::ENTRY_REFUSAL
-}
-
-pub fn ask(op: usize, call: &[u8], image: &[u8], w: World, second: bool, out: &mut [u8]) -> World {
-    let c = w.entry_at(second);
-    match op {
-        ops::ENTRY_FIRST => moved(bavo_entry_first(image, c), image, w, second, out),
-        ops::ENTRY_SEEK => seek(call, image, w, second, out),
-        ops::ENTRY_NEXT => moved(bavo_entry_next(image, c), image, w, second, out),
-        ops::ENTRY_PREV => moved(bavo_entry_prev(image, c), image, w, second, out),
-        _ => w.told(shown(op, image, c, out)),
+    let r = moved(op, call, image, c);
+    if r.refusal == NO_LINE {
+        return UNCLEAR;
     }
+    state::set_entry_cursor(state, t, r.on as usize, r.node);
+    led(out, image, r)
 }

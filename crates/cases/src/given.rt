@@ -2,9 +2,12 @@
 // letter so many times (k*1025); "" are none.
 ghost use Prim.Native.Nat.{_≤_, _<_};
 use crate::put;
+use crate::text::before;
 use crate::text::begins;
 use crate::text::byte;
 use crate::text::rest;
+use crate::text::skip;
+use crate::text::word;
 use check::same;
 
 // A number, if a text is one.
@@ -84,6 +87,25 @@ pub fn number(s: &[u8]) -> Parsed {
     n
 }
 
+// Two numbers, if both words are.
+pub struct Numbers {
+    pub formed: bool,
+    pub first: u64,
+    pub second: u64,
+}
+
+// The k-th word of a line and the one behind it as numbers.
+pub fn two(line: &[u8], k: usize) -> Numbers {
+    let from = skip(line, k);
+    let first = number(before(rest(line, from), b' '));
+    let second = number(word(rest(line, from), 1));
+    Numbers {
+        formed: first.formed & second.formed,
+        first: first.value,
+        second: second.value,
+    }
+}
+
 // How many decimal digits a text begins with.
 pub fn digits(s: &[u8]) -> usize {
     let mut i = 0;
@@ -134,7 +156,7 @@ fn repeated(b: u8, times: Parsed, out: &mut [u8]) -> Taken {
     if n > out.len() {
         return took(false, 0);
     }
-    put::fill(out, n, b);
+    put::fill(out, 0, n, b);
     took(times.formed, n)
 }
 

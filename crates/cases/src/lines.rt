@@ -1,156 +1,103 @@
 // Does what a line asks for.
 use crate::changes;
 use crate::entry_cursor;
-use crate::given::number;
+use crate::given::two;
 use crate::one_table;
 use crate::ops;
 use crate::pair;
+use crate::state;
+use crate::state::QUIET;
+use crate::state::UNCLEAR;
 use crate::tally;
 use crate::text::index;
 use crate::text::part;
 use crate::text::word;
-use crate::world::World;
 use crate::writes;
 
-// Whether a word names the second table; neither table is `unknown`.
-enum Which {
-    First,
-    Second,
-    Unknown,
-}
-
-fn table(s: &[u8]) -> Which {
-    match index(b"A B", 2, s) {
-        0 => Which::First,
-        1 => Which::Second,
-        _ => Which::Unknown,
+// Two numbers become a cursor.
+fn set_cursor(op: usize, call: &[u8], t: usize, state: &mut [usize; 10]) -> usize {
+    let n = two(call, op);
+    if !(n.formed & (n.first <= 4294967295)) {
+        return UNCLEAR;
     }
-}
-
-// Two numbers become the visible cursor.
-fn set_cursor(call: &[u8], w: World) -> World {
-    let t = number(word(call, 1));
-    let node = number(word(call, 2));
-    if !(t.formed & node.formed) {
-        return w.unclear();
+    if op == ops::CURSOR {
+        state::set_cursor(state, n.first as usize, n.second as usize);
+        return QUIET;
     }
-    if t.value > 4294967295 {
-        return w.unclear();
+    if t > 1 {
+        return UNCLEAR;
     }
-    w.with_cursor(t.value as u32, node.value as usize).quiet()
-}
-
-// Two numbers become a table's entry cursor.
-fn set_entry_cursor(call: &[u8], w: World, second: bool) -> World {
-    let on = number(word(call, 2));
-    let node = number(word(call, 3));
-    if !(on.formed & node.formed) {
-        return w.unclear();
-    }
-    if on.value > 4294967295 {
-        return w.unclear();
-    }
-    w.with_entry_cursor(second, on.value as u32, node.value as usize)
-        .quiet()
+    state::set_entry_cursor(state, t, n.first as usize, n.second as usize);
+    QUIET
 }
 
 // Who answers from here on.
-fn answered(call: &[u8], w: World) -> World {
-    let by = tally::source(word(call, 1));
+fn answered(s: &[u8], state: &mut [usize; 10]) -> usize {
+    let by = tally::source(s);
     if by >= tally::SOURCES {
-        return w.unclear();
+        return UNCLEAR;
     }
-    w.answered_by(by).quiet()
+    state[state::BY] = by;
+    QUIET
 }
 
-// The calls on one table that change no byte.
-fn on_one(op: usize, call: &[u8], image: &[u8], w: World, second: bool, out: &mut [u8]) -> World {
-    if op == ops::ENTRY_CURSOR {
-        return set_entry_cursor(call, w, second);
-    }
-    if entry_cursor::is_mine(op) {
-        return entry_cursor::ask(op, call, image, w, second, out);
-    }
-    one_table::ask(op, call, image, w, out)
+// What the last call that writes changed.
+fn changed(memory: &[u8], t: usize, len: usize, out: &mut [u8]) -> usize {
+    changes::all(
+        out,
+        state::image(memory, t, len),
+        part(memory, state::BEFORE, len),
+    )
 }
 
-// The calls that change no byte.
-fn look<'a>(
+// The calls over both tables.
+fn over_both(op: usize, s: &[u8], memory: &[u8], state: &mut [usize; 10], out: &mut [u8]) -> usize {
+    let first = state::image(memory, 0, state::len(state, 0));
+    let second = state::image(memory, 1, state::len(state, 1));
+    pair::ask(op, s, first, second, state, out)
+}
+
+// The questions, which change no byte of a memory.
+fn look(
     op: usize,
     call: &[u8],
-    first: &'a [u8],
-    second: &'a [u8],
-    w: World,
+    t: usize,
+    memory: &[u8],
+    state: &mut [usize; 10],
     out: &mut [u8],
-) -> World {
+) -> usize {
     if op >= ops::PAIR_GET {
-        return pair::ask(op, call, first, second, w, out);
+        return over_both(op, word(call, 1), memory, state, out);
     }
-    let t = table(word(call, 1));
-    match t {
-        Which::First => on_one(op, call, first, w, false, out),
-        Which::Second => on_one(op, call, second, w, true, out),
-        Which::Unknown => w.unclear(),
+    if t > 1 {
+        return UNCLEAR;
     }
+    let image = state::image(memory, t, state::len(state, t));
+    if op >= ops::ENTRY_FIRST {
+        return entry_cursor::ask(op, call, t, image, state, out);
+    }
+    one_table::ask(op, call, image, out)
 }
 
-// The same on the images in the first bytes of the memories; and what the last call that writes changed.
-fn look_in<'a>(
-    op: usize,
-    call: &[u8],
-    first: &'a [u8],
-    second: &'a [u8],
-    before: &[u8],
-    w: World,
-    out: &mut [u8],
-) -> World {
-    let one = part(first, 0, w.first_len);
-    let two = part(second, 0, w.second_len);
-    if op != ops::CHANGED {
-        return look(op, call, one, two, w, out);
-    }
-    if w.wrote_second {
-        return w.told(changes::all(out, two, before));
-    }
-    w.told(changes::all(out, one, before))
-}
-
-// The lines that write to a table's memory.
-fn write(
-    op: usize,
-    call: &[u8],
-    first: &mut [u8],
-    second: &mut [u8],
-    before: &mut [u8],
-    w: World,
-    out: &mut [u8],
-) -> World {
-    let t = table(word(call, 1));
-    match t {
-        Which::First => writes::follow(op, call, first, w.first_len, before, w, false, out),
-        Which::Second => writes::follow(op, call, second, w.second_len, before, w, true, out),
-        Which::Unknown => w.unclear(),
-    }
-}
-
-// Does what a line asks for before its arrow; the answer stands at the start of out.
-pub fn follow(
-    call: &[u8],
-    first: &mut [u8],
-    second: &mut [u8],
-    before: &mut [u8],
-    w: World,
-    out: &mut [u8],
-) -> World {
+// Does what a line asks for before its arrow; the answer stands at the start of out, and where it ends is told.
+pub fn follow(call: &[u8], memory: &mut [u8], state: &mut [usize; 10], out: &mut [u8]) -> usize {
     let op = ops::of(call);
-    match op {
-        ops::CASE => writes::begin(call, first, second, w),
-        ops::LEND | ops::SET | ops::FRESH | ops::ADD => {
-            write(op, call, first, second, before, w, out)
-        }
-        ops::BY => answered(call, w),
-        ops::CURSOR => set_cursor(call, w),
-        ops::UNKNOWN => w.unclear(),
-        _ => look_in(op, call, first, second, before, w, out),
+    let t = index(b"A B", 2, word(call, 1));
+    if op == ops::BY {
+        return answered(word(call, 1), state);
     }
+    if op <= ops::ENTRY_CURSOR {
+        return set_cursor(op, call, t, state);
+    }
+    if op <= ops::ADD {
+        return writes::follow(op, call, t, memory, state, out);
+    }
+    if op == ops::CHANGED {
+        let wrote = state[state::WROTE];
+        return changed(memory, wrote, state::len(state, wrote), out);
+    }
+    if op >= ops::UNKNOWN {
+        return UNCLEAR;
+    }
+    look(op, call, t, memory, state, out)
 }

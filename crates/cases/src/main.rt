@@ -11,19 +11,19 @@ mod ops; // ops.rt: the words that a line begins with
 mod pair; // pair.rt: the calls over both tables
 mod put; // put.rt: writing into a line or a memory
 mod show; // show.rt: answers in words
+mod state; // state.rt: what lines carry from one to the next
 mod tally; // tally.rt: how many answers were as expected
 mod text; // text.rt: parts and words of a text
-mod world; // world.rt: what a run carries from line to line
 mod writes; // writes.rt: what writes to a table's memory
 
 ghost use Prim.Native.Nat.{_<_};
 ghost use lib.ListN.{length};
+use crate::state::UNCLEAR;
 use crate::text::arrow;
 use crate::text::begins;
 use crate::text::byte;
 use crate::text::part;
 use crate::text::rest;
-use crate::world::World;
 use bytes::scan::find;
 use check::same;
 
@@ -54,16 +54,17 @@ fn differs(n: u64, line: &[u8], formed: bool, answer: &[u8]) {
 }
 
 // Judges what a line came to. One that asks nothing is counted only if it is wrong.
-fn judge(n: u64, line: &[u8], w: World, answer: &[u8], counts: &mut [u64; 10]) {
+fn judge(n: u64, line: &[u8], said: usize, out: &[u8], by: usize, counts: &mut [u64; 11]) {
+    let answer = part(out, 0, said);
     let expected = rest(rest(line, arrow(line)), 4);
-    let right = w.formed & holds(expected, answer);
-    if !right {
-        differs(n, line, w.formed, answer);
-        tally::note(counts, w.by, false);
+    let formed = said < UNCLEAR;
+    if !(formed & holds(expected, answer)) {
+        differs(n, line, formed, answer);
+        tally::note(counts, by, false);
         return;
     }
     if answer.len() > 0 {
-        tally::note(counts, w.by, true);
+        tally::note(counts, by, true);
     }
 }
 
@@ -79,20 +80,17 @@ fn is_comment(line: &[u8]) -> bool {
 fn run_line(
     n: u64,
     line: &[u8],
-    first: &mut [u8],
-    second: &mut [u8],
-    before: &mut [u8],
-    w: World,
-    counts: &mut [u64; 10],
-) -> World {
+    memory: &mut [u8],
+    state: &mut [usize; 10],
+    counts: &mut [u64; 11],
+) {
     if is_comment(line) {
-        return w;
+        return;
     }
     let mut out = [0u8; 1024];
     let call = part(line, 0, arrow(line));
-    let after = lines::follow(call, first, second, before, w, &mut out);
-    judge(n, line, after, part(&out, 0, after.said), counts);
-    after
+    let said = lines::follow(call, memory, state, &mut out);
+    judge(n, line, said, &out, state[state::BY], counts);
 }
 
 // Where the line behind the one at a place begins.
@@ -105,32 +103,24 @@ fn behind(s: &[u8], at: usize) -> usize
 }
 
 // Runs the lines of a text.
-fn run(all: &[u8], first: &mut [u8], second: &mut [u8], before: &mut [u8], counts: &mut [u64; 10]) {
-    let mut w = World::new();
+fn run(all: &[u8], memory: &mut [u8], state: &mut [usize; 10], counts: &mut [u64; 11]) {
     let mut n = 0;
     let mut at = 0;
     while at < all.len() {
         let line = text::before(rest(all, at), b'\n');
         n += 1;
-        w = run_line(n, line, first, second, before, w, counts);
+        run_line(n, line, memory, state, counts);
         at = behind(all, at);
     }
 }
 
 fn main() {
     let mut space = [0u8; 524288];
-    let mut first = [0u8; 65537];
-    let mut second = [0u8; 65537];
-    let mut before = [0u8; 65537];
-    let mut counts = [0u64; 10];
+    let mut memory = [0u8; 196611];
+    let mut state = [0usize; 10];
+    let mut counts = [0u64; 11];
     let n = io::read_full(0, &mut space);
-    run(
-        &space[..n],
-        &mut first,
-        &mut second,
-        &mut before,
-        &mut counts,
-    );
+    run(&space[..n], &mut memory, &mut state, &mut counts);
     tally::show(&counts);
     if n == 524288 {
         io::write_all(1, b"the text is too long\n");

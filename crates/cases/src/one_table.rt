@@ -1,89 +1,81 @@
 // The calls on one table that change no byte, but for those of its entry cursor.
 use crate::entry;
 use crate::given::number;
+use crate::given::two;
 use crate::ops;
 use crate::put;
 use crate::show;
+use crate::state::UNCLEAR;
 use crate::text::part;
 use crate::text::word;
-use crate::world::World;
+use capi::memtable::BavoLookup;
 use capi::memtable::bavo_check;
 use capi::memtable::bavo_contains;
 use capi::memtable::bavo_get;
 use capi::memtable::bavo_value;
 use capi::memtable::bavo_value_refusal;
 
-// The newest entry of a key up to a snapshot, and the value of a found node.
-fn get(asked: &[u8], image: &[u8], w: World, out: &mut [u8]) -> World {
-    let mut space = [0u8; 4200];
-    let key = entry::key(asked, &mut space);
-    let at = entry::snapshot(asked);
-    if !key.formed {
-        return w.unclear();
+// A lookup's answer.
+fn lookup(out: &mut [u8], image: &[u8], r: BavoLookup) -> usize {
+    if r.refusal != 0 {
+        return show::refused(out, 0, r.refusal);
     }
-    if !at.formed {
-        return w.unclear();
-    }
-    let r = bavo_get(image, part(&space, 0, key.len), at.number);
-    w.told(show::lookup(out, image, r))
+    show::lookup(out, image, r.answer, 0, r.node, r.looks)
 }
 
-// Whether an entry is held.
-fn contains(asked: &[u8], image: &[u8], w: World, out: &mut [u8]) -> World {
+// The calls that take a key: a lookup, and whether an entry is held.
+fn with_key(op: usize, s: &[u8], image: &[u8], out: &mut [u8]) -> usize {
     let mut space = [0u8; 4200];
-    let key = entry::key(asked, &mut space);
-    let at = entry::numbered(asked);
-    if !key.formed {
-        return w.unclear();
+    let held = op == ops::CONTAINS;
+    let asked = entry::asked(s, held, &mut space);
+    let bare = entry::value_text(s).len() < 1;
+    if !(asked.formed & bare) {
+        return UNCLEAR;
     }
-    if !at.formed {
-        return w.unclear();
+    let key = part(&space, 0, asked.len);
+    if held {
+        let r = bavo_contains(image, key, asked.number, asked.kind);
+        return show::presence(out, r);
     }
-    if entry::value_text(asked).len() > 0 {
-        return w.unclear();
-    }
-    let r = bavo_contains(image, part(&space, 0, key.len), at.number, at.kind);
-    w.told(show::presence(out, r))
+    lookup(out, image, bavo_get(image, key, asked.number))
 }
 
 // The value of a node, or its companion.
-fn value(op: usize, asked: &[u8], image: &[u8], w: World, out: &mut [u8]) -> World {
-    let n = number(asked);
+fn value(op: usize, s: &[u8], image: &[u8], out: &mut [u8]) -> usize {
+    let n = number(s);
     let node = n.value as usize;
     if !n.formed {
-        return w.unclear();
+        return UNCLEAR;
     }
     if op == ops::VALUE {
-        return w.told(show::view_at(out, image, bavo_value(image, node)));
+        return show::view_at(out, image, 0, bavo_value(image, node));
     }
-    w.told(put::number(out, 0, bavo_value_refusal(image, node) as u64))
+    put::number(out, 0, bavo_value_refusal(image, node) as u64)
 }
 
 // So many bytes of the image from a place on, four to a group.
-fn bytes(call: &[u8], image: &[u8], w: World, out: &mut [u8]) -> World {
-    let from = number(word(call, 2));
-    let n = number(word(call, 3));
-    if !from.formed {
-        return w.unclear();
-    }
+fn bytes(call: &[u8], image: &[u8], out: &mut [u8]) -> usize {
+    let n = two(call, 2);
+    let stretch = part(image, n.first as usize, n.second as usize);
     if !n.formed {
-        return w.unclear();
+        return UNCLEAR;
     }
-    let stretch = part(image, from.value as usize, n.value as usize);
     if stretch.len() < 1 {
-        return w.unclear();
+        return UNCLEAR;
     }
-    w.told(put::hex(out, 0, stretch, 4))
+    put::hex(out, 0, stretch, 4)
 }
 
-pub fn ask(op: usize, call: &[u8], image: &[u8], w: World, out: &mut [u8]) -> World {
-    let asked = word(call, 2);
-    match op {
-        ops::CHECK => w.told(show::soundness(out, bavo_check(image))),
-        ops::GET => get(asked, image, w, out),
-        ops::CONTAINS => contains(asked, image, w, out),
-        ops::VALUE | ops::VALUE_REFUSAL => value(op, asked, image, w, out),
-        ops::BYTES => bytes(call, image, w, out),
-        _ => w.unclear(),
+pub fn ask(op: usize, call: &[u8], image: &[u8], out: &mut [u8]) -> usize {
+    if op == ops::BYTES {
+        return bytes(call, image, out);
     }
+    if op == ops::CHECK {
+        return show::unless(out, bavo_check(image), b"not sound");
+    }
+    let s = word(call, 2);
+    if op < ops::VALUE {
+        return with_key(op, s, image, out);
+    }
+    value(op, s, image, out)
 }

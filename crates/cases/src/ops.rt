@@ -4,17 +4,17 @@ use crate::text::byte;
 use crate::text::index;
 use crate::text::word;
 
-pub const CASE: usize = 0;
+pub const BY: usize = 0;
 
-pub const LEND: usize = 1;
+pub const CURSOR: usize = 1;
 
-pub const SET: usize = 2;
+pub const ENTRY_CURSOR: usize = 2;
 
-pub const BY: usize = 3;
+pub const CASE: usize = 3;
 
-pub const CURSOR: usize = 4;
+pub const LEND: usize = 4;
 
-pub const ENTRY_CURSOR: usize = 5;
+pub const SET: usize = 5;
 
 pub const FRESH: usize = 6;
 
@@ -32,8 +32,6 @@ pub const CONTAINS: usize = 12;
 
 pub const VALUE: usize = 13;
 
-pub const VALUE_REFUSAL: usize = 14;
-
 pub const ENTRY_FIRST: usize = 15;
 
 pub const ENTRY_SEEK: usize = 16;
@@ -50,8 +48,6 @@ pub const ENTRY_NUMBER: usize = 21;
 
 pub const ENTRY_KIND: usize = 22;
 
-pub const ENTRY_REFUSAL: usize = 23;
-
 pub const PAIR_GET: usize = 24;
 
 pub const ROW: usize = 25;
@@ -62,8 +58,6 @@ pub const SEEK: usize = 27;
 
 pub const NEXT: usize = 28;
 
-pub const PREV: usize = 29;
-
 pub const ROW_KEY: usize = 30;
 
 pub const ROW_VALUE: usize = 31;
@@ -72,24 +66,19 @@ pub const ROW_REFUSAL: usize = 32;
 
 pub const UNKNOWN: usize = 33;
 
-// The number of a word that a line may begin with.
+// The number of a word that a line may begin with; the words without a name above are the last of their groups.
 fn named(s: &[u8]) -> usize {
     let names =
-        b"case lend set by cursor entry_cursor fresh add changed bytes check get contains value value_refusal \
+        b"by cursor entry_cursor case lend set fresh add changed bytes check get contains value value_refusal \
         entry_first entry_seek entry_next entry_prev entry_key entry_value entry_number entry_kind entry_refusal \
         pair_get row first seek next prev row_key row_value row_refusal";
     index(names, UNKNOWN, s)
 }
 
-// How many words stand behind it, as a digit; 0 where it is none.
-fn arguments(op: usize) -> u8 {
-    byte(b"233123130312222121111111111111000", op)
-}
-
 // What a call is, by its first word, if as many words stand behind it as there should.
 pub fn of(call: &[u8]) -> usize {
     let op = named(word(call, 0));
-    let digit = arguments(op) as usize;
+    let digit = byte(b"123233130312222121111111111111000", op) as usize;
     let n = blanks(call);
     if n > 9 {
         return UNKNOWN;

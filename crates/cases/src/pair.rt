@@ -1,12 +1,14 @@
 // The calls over both tables: the lookup in a pair, the moves of the visible cursor, its views.
 use crate::entry;
+use crate::given::number;
 use crate::ops;
 use crate::put;
 use crate::show;
-use crate::text::before;
+use crate::state;
+use crate::state::UNCLEAR;
+use crate::text::byte;
 use crate::text::part;
-use crate::text::word;
-use crate::world::World;
+use crate::text::rest;
 use capi::db_iter::BavoCursor;
 use capi::db_iter::BavoMoved;
 use capi::db_iter::BavoPairLookup;
@@ -15,11 +17,15 @@ use capi::db_iter::bavo_next;
 use capi::db_iter::bavo_pair_get;
 use capi::db_iter::bavo_prev;
 use capi::db_iter::bavo_seek;
+use capi::memtable::BavoView;
 use capi::memtable::bavo_value;
 use capi::row_views::BavoRowView;
 use capi::row_views::bavo_row_key;
 use capi::row_views::bavo_row_refusal;
 use capi::row_views::bavo_row_value;
+
+// More than a refusal's number: the line is none.
+const NO_LINE: u32 = 99;
 
 // The image that a table's number names.
 fn image_of<'a>(first: &'a [u8], second: &'a [u8], table: u32) -> &'a [u8] {
@@ -29,76 +35,81 @@ fn image_of<'a>(first: &'a [u8], second: &'a [u8], table: u32) -> &'a [u8] {
     first
 }
 
-// The bytes of a row's view, or its refusal.
-fn view<'a>(out: &mut [u8], at: usize, first: &'a [u8], second: &'a [u8], v: BavoRowView) -> usize {
-    if v.refusal != 0 {
-        return show::refused(out, at, v.refusal);
+// The view in its image.
+fn plain(v: BavoRowView) -> BavoView {
+    BavoView {
+        refusal: v.refusal,
+        offset: v.offset,
+        length: v.length,
     }
-    let image = image_of(first, second, v.table);
-    put::bytes(out, at, part(image, v.offset, v.length))
 }
 
-// The same with the table and the place where the bytes stand.
-fn view_at<'a>(out: &mut [u8], first: &'a [u8], second: &'a [u8], v: BavoRowView) -> usize {
-    let end = view(out, 0, first, second, v);
-    if v.refusal != 0 {
-        return end;
-    }
-    if v.table == 0 {
-        return put::text(out, end, b" nowhere");
-    }
-    let end = put::text(out, end, b" in ");
-    let end = put::byte(out, end, show::letter(v.table));
-    put::counted(out, end, b" at ", v.offset)
-}
-
-// A table and a node.
-fn place(out: &mut [u8], at: usize, table: u32, node: usize) -> usize {
-    let end = put::text(out, at, b" in ");
-    let end = put::byte(out, end, show::letter(table));
-    put::counted(out, end, b" node ", node)
-}
-
-// The value that a lookup found.
-fn value<'a>(
-    out: &mut [u8],
-    at: usize,
-    first: &'a [u8],
-    second: &'a [u8],
-    r: BavoPairLookup,
-) -> usize {
-    let image = image_of(first, second, r.table);
-    show::view(out, at, image, bavo_value(image, r.node))
-}
-
-// A lookup.
-fn lookup<'a>(out: &mut [u8], first: &'a [u8], second: &'a [u8], r: BavoPairLookup) -> usize {
+// A lookup's answer; `row` tells a value, or that there is none.
+fn lookup(op: usize, out: &mut [u8], image: &[u8], r: BavoPairLookup) -> usize {
     if r.refusal != 0 {
         return show::refused(out, 0, r.refusal);
     }
-    let answer = r.answer;
-    match answer {
-        0 => put::counted(out, 0, b"absent looks ", r.looks),
-        1 => {
-            let end = put::text(out, 0, b"found ");
-            let end = value(out, end, first, second, r);
-            let end = place(out, end, r.table, r.node);
-            put::counted(out, end, b" looks ", r.looks)
-        }
-        2 => put::counted(out, 0, b"deleted looks ", r.looks),
-        _ => put::text(out, 0, b"no such answer"),
+    if op != ops::ROW {
+        return show::lookup(out, image, r.answer, r.table, r.node, r.looks);
+    }
+    if r.answer != 1 {
+        return put::text(out, 0, b"none");
+    }
+    show::view(out, 0, image, bavo_value(image, r.node))
+}
+
+// A lookup in the pair.
+fn get<'a>(op: usize, s: &[u8], first: &'a [u8], second: &'a [u8], out: &mut [u8]) -> usize {
+    let mut space = [0u8; 4200];
+    let asked = entry::asked(s, false, &mut space);
+    if !asked.formed {
+        return UNCLEAR;
+    }
+    let r = bavo_pair_get(first, second, part(&space, 0, asked.len), asked.number);
+    lookup(op, out, image_of(first, second, r.table), r)
+}
+
+fn no_line() -> BavoMoved {
+    BavoMoved {
+        refusal: NO_LINE,
+        table: 0,
+        node: 0,
     }
 }
 
-// A lookup by one who tells a row's value, or that there is none.
-fn row<'a>(out: &mut [u8], first: &'a [u8], second: &'a [u8], r: BavoPairLookup) -> usize {
-    if r.refusal != 0 {
-        return show::refused(out, 0, r.refusal);
+// To a key with a row, at or above one.
+fn sought<'a>(s: &[u8], first: &'a [u8], second: &'a [u8], c: BavoCursor) -> BavoMoved {
+    let mut space = [0u8; 4200];
+    let asked = entry::asked(s, false, &mut space);
+    if !asked.formed {
+        return no_line();
     }
-    if r.answer == 1 {
-        return value(out, 0, first, second, r);
+    let key = part(&space, 0, asked.len);
+    bavo_seek(first, second, asked.number, c, key)
+}
+
+fn moved<'a>(op: usize, s: &[u8], first: &'a [u8], second: &'a [u8], c: BavoCursor) -> BavoMoved {
+    if op == ops::SEEK {
+        return sought(s, first, second, c);
     }
-    put::text(out, 0, b"none")
+    let n = number(rest(s, 1));
+    if !(n.formed & (byte(s, 0) == b'@')) {
+        return no_line();
+    }
+    match op {
+        ops::FIRST => bavo_first(first, second, n.value, c),
+        ops::NEXT => bavo_next(first, second, n.value, c),
+        _ => bavo_prev(first, second, n.value, c),
+    }
+}
+
+// The row at a cursor, and its place.
+fn row_at<'a>(out: &mut [u8], first: &'a [u8], second: &'a [u8], c: BavoCursor) -> usize {
+    let image = image_of(first, second, c.table);
+    let end = show::view(out, 0, image, plain(bavo_row_key(first, second, c)));
+    let end = put::byte(out, end, b'=');
+    let end = show::view(out, end, image, plain(bavo_row_value(first, second, c)));
+    show::place(out, end, c.table, c.node)
 }
 
 // Where a move led.
@@ -113,97 +124,48 @@ fn led<'a>(out: &mut [u8], first: &'a [u8], second: &'a [u8], r: BavoMoved) -> u
         table: r.table,
         node: r.node,
     };
-    let end = view(out, 0, first, second, bavo_row_key(first, second, c));
-    let end = put::text(out, end, b"=");
-    let end = view(out, end, first, second, bavo_row_value(first, second, c));
-    place(out, end, r.table, r.node)
+    row_at(out, first, second, c)
 }
 
-// The cursor is the one that a move hands back.
-fn moved<'a>(r: BavoMoved, first: &'a [u8], second: &'a [u8], w: World, out: &mut [u8]) -> World {
-    let end = led(out, first, second, r);
-    w.with_cursor(r.table, r.node).told(end)
+// A view with its table, or that it is nowhere.
+fn view_at<'a>(out: &mut [u8], first: &'a [u8], second: &'a [u8], v: BavoRowView) -> usize {
+    if (v.refusal == 0) & (v.table == 0) {
+        return put::text(out, 0, b"\"\" nowhere");
+    }
+    let image = image_of(first, second, v.table);
+    show::view_at(out, image, v.table, plain(v))
 }
 
-// The calls that take a key.
-fn with_key<'a>(
-    op: usize,
-    asked: &[u8],
-    first: &'a [u8],
-    second: &'a [u8],
-    w: World,
-    snapshot: u64,
-    out: &mut [u8],
-) -> World {
-    let mut space = [0u8; 4200];
-    let given = entry::key(asked, &mut space);
-    if !given.formed {
-        return w.unclear();
+// The views at the cursor.
+fn shown<'a>(op: usize, first: &'a [u8], second: &'a [u8], c: BavoCursor, out: &mut [u8]) -> usize {
+    if op == ops::ROW_KEY {
+        return view_at(out, first, second, bavo_row_key(first, second, c));
     }
-    let key = part(&space, 0, given.len);
-    if op == ops::SEEK {
-        return moved(
-            bavo_seek(first, second, snapshot, w.at, key),
-            first,
-            second,
-            w,
-            out,
-        );
+    if op == ops::ROW_VALUE {
+        return view_at(out, first, second, bavo_row_value(first, second, c));
     }
-    let r = bavo_pair_get(first, second, key, snapshot);
-    if op == ops::ROW {
-        return w.told(row(out, first, second, r));
-    }
-    w.told(lookup(out, first, second, r))
-}
-
-// The calls that take a snapshot.
-fn with_snapshot<'a>(
-    op: usize,
-    asked: &[u8],
-    first: &'a [u8],
-    second: &'a [u8],
-    w: World,
-    out: &mut [u8],
-) -> World {
-    let at = entry::snapshot(asked);
-    if !at.formed {
-        return w.unclear();
-    }
-    let s = at.number;
-    if before(asked, b'@').len() > 0 {
-        return with_key(op, asked, first, second, w, s, out);
-    }
-    match op {
-        ops::FIRST => moved(bavo_first(first, second, s, w.at), first, second, w, out),
-        ops::NEXT => moved(bavo_next(first, second, s, w.at), first, second, w, out),
-        ops::PREV => moved(bavo_prev(first, second, s, w.at), first, second, w, out),
-        _ => w.unclear(),
-    }
+    put::number(out, 0, bavo_row_refusal(first, second, c) as u64)
 }
 
 pub fn ask<'a>(
     op: usize,
-    call: &[u8],
+    s: &[u8],
     first: &'a [u8],
     second: &'a [u8],
-    w: World,
+    state: &mut [usize; 10],
     out: &mut [u8],
-) -> World {
-    let c = w.at;
-    match op {
-        ops::ROW_KEY => {
-            let v = bavo_row_key(first, second, c);
-            w.told(view_at(out, first, second, v))
-        }
-        ops::ROW_VALUE => {
-            let v = bavo_row_value(first, second, c);
-            w.told(view_at(out, first, second, v))
-        }
-        ops::ROW_REFUSAL => {
-            let refusal = bavo_row_refusal(first, second, c);
-            w.told(put::number(out, 0, refusal as u64))
-        }
-        _ => with_snapshot(op, word(call, 1), first, second, w, out),
+) -> usize {
+    let c = state::cursor(state);
+    if op >= ops::ROW_KEY {
+        return shown(op, first, second, c, out);
     }
+    if op <= ops::ROW {
+        return get(op, s, first, second, out);
+    }
+    let r = moved(op, s, first, second, c);
+    if r.refusal == NO_LINE {
+        return UNCLEAR;
+    }
+    state::set_cursor(state, r.table as usize, r.node);
+    led(out, first, second, r)
 }

@@ -1,6 +1,7 @@
 // Writing into a line or a memory, from a place on and as far as it has room; each function answers the place behind what it wrote.
 use crate::text::byte as byte_of;
 use crate::text::part;
+use crate::text::rest;
 
 // More equal bytes than this are written as one letter so many times.
 const LONG: usize = 16;
@@ -25,13 +26,35 @@ pub fn text(out: &mut [u8], at: usize, s: &[u8]) -> usize {
     end
 }
 
-// So many bytes at the start, all the same.
-pub fn fill(out: &mut [u8], n: usize, b: u8) {
+// So many bytes, all the same.
+pub fn fill(out: &mut [u8], at: usize, n: usize, b: u8) {
+    let mut end = at;
     let mut i = 0;
     while i < n {
-        byte(out, i, b);
+        end = byte(out, end, b);
         i += 1;
     }
+}
+
+// So many bytes of a memory, from one place to another.
+pub fn keep(memory: &mut [u8], from: usize, to: usize, n: usize) {
+    let mut end = to;
+    let mut i = 0;
+    while i < n {
+        end = byte(memory, end, byte_of(rest(memory, from), i));
+        i += 1;
+    }
+}
+
+// Bytes over those at a place of a part that begins there.
+pub fn over(memory: &mut [u8], start: usize, at: usize, s: &[u8]) {
+    if at > memory.len() {
+        return;
+    }
+    if start > memory.len() - at {
+        return;
+    }
+    text(memory, start + at, s);
 }
 
 // A number.

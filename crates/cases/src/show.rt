@@ -1,7 +1,8 @@
-// What calls on either cursor and on one table answer, in words.
+// Answers in words.
 use crate::put;
 use crate::text::part;
-use capi::memtable::BavoLookup;
+use crate::text::rest;
+use crate::text::word;
 use capi::memtable::BavoPresence;
 use capi::memtable::BavoView;
 use capi::memtable::bavo_value;
@@ -27,43 +28,50 @@ pub fn view(out: &mut [u8], at: usize, image: &[u8], v: BavoView) -> usize {
 }
 
 // The same with the place where the bytes stand.
-pub fn view_at(out: &mut [u8], image: &[u8], v: BavoView) -> usize {
+pub fn view_at(out: &mut [u8], image: &[u8], table: u32, v: BavoView) -> usize {
     let end = view(out, 0, image, v);
     if v.refusal != 0 {
         return end;
     }
+    let end = in_table(out, end, table);
     put::counted(out, end, b" at ", v.offset)
 }
 
-// A table's letter.
-pub fn letter(table: u32) -> u8 {
-    match table {
-        1 => b'A',
-        2 => b'B',
-        _ => b'?',
-    }
+// The first or the second table; 0 is none.
+fn in_table(out: &mut [u8], at: usize, table: u32) -> usize {
+    let from = if table == 2 { 5 } else { 0 };
+    let len = if table == 0 { 0 } else { 5 };
+    put::text(out, at, part(b" in A in B", from, len))
 }
 
-// What a lookup found.
-fn found(out: &mut [u8], image: &[u8], node: usize, looks: usize) -> usize {
-    let end = put::text(out, 0, b"found ");
+// A node, and of a pair its table.
+pub fn place(out: &mut [u8], at: usize, table: u32, node: usize) -> usize {
+    let end = in_table(out, at, table);
+    put::counted(out, end, b" node ", node)
+}
+
+// The value and the place of a found node.
+fn found(out: &mut [u8], at: usize, image: &[u8], table: u32, node: usize) -> usize {
+    let end = put::byte(out, at, b' ');
     let end = view(out, end, image, bavo_value(image, node));
-    let end = put::counted(out, end, b" node ", node);
-    put::counted(out, end, b" looks ", looks)
+    place(out, end, table, node)
 }
 
-// A lookup in one table.
-pub fn lookup(out: &mut [u8], image: &[u8], r: BavoLookup) -> usize {
-    if r.refusal != 0 {
-        return refused(out, 0, r.refusal);
+// What a lookup answered; the image is that of the found node.
+pub fn lookup(
+    out: &mut [u8],
+    image: &[u8],
+    answer: u32,
+    table: u32,
+    node: usize,
+    looks: usize,
+) -> usize {
+    let end = put::text(out, 0, word(b"absent found deleted", answer as usize));
+    if answer != 1 {
+        return put::counted(out, end, b" looks ", looks);
     }
-    let answer = r.answer;
-    match answer {
-        0 => put::counted(out, 0, b"absent looks ", r.looks),
-        1 => found(out, image, r.node, r.looks),
-        2 => put::counted(out, 0, b"deleted looks ", r.looks),
-        _ => put::text(out, 0, b"no such answer"),
-    }
+    let end = found(out, end, image, table, node);
+    put::counted(out, end, b" looks ", looks)
 }
 
 // Whether an entry is held.
@@ -71,15 +79,14 @@ pub fn presence(out: &mut [u8], r: BavoPresence) -> usize {
     if r.refusal != 0 {
         return refused(out, 0, r.refusal);
     }
-    if r.held == 1 {
-        return put::counted(out, 0, b"held looks ", r.looks);
-    }
-    put::counted(out, 0, b"not held looks ", r.looks)
+    let end = unless(out, r.held == 1, b"not held");
+    put::counted(out, end, b" looks ", r.looks)
 }
 
-pub fn soundness(out: &mut [u8], sound: bool) -> usize {
-    if sound {
-        return put::text(out, 0, b"sound");
+// A text that begins with 'not ', or without that.
+pub fn unless(out: &mut [u8], yes: bool, s: &[u8]) -> usize {
+    if yes {
+        return put::text(out, 0, rest(s, 4));
     }
-    put::text(out, 0, b"not sound")
+    put::text(out, 0, s)
 }

@@ -42,7 +42,7 @@ pub fn after(s: &[u8], mark: u8) -> &[u8] {
 }
 
 // Where the k-th word begins, counted from 0, or the end. Words are separated by a blank each.
-fn skip(s: &[u8], k: usize) -> usize
+pub fn skip(s: &[u8], k: usize) -> usize
     ensures { λ r. ⌜ r ≤ length (now (s .entry)) ⌝ }
 {
     let mut left = k;

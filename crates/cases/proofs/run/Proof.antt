@@ -7,13 +7,10 @@ use Rattle.cases.proofs.run.Statement.{statement}
 use Rattle.cases.proofs.run.Tie as tie
 
 abbrev Inv-loop : tie.InvT-loop
-Inv-loop all first₀ second₀ before₀ counts₀ w₀ n₀ at₀ first second before counts w n at = (n ≤ at) × (length first ≡ length first₀) × (length second ≡ length second₀) × (length before ≡ length before₀)
+Inv-loop all memory₀ state₀ counts₀ n₀ at₀ memory state counts n at = (n ≤ at) × (length memory ≡ length memory₀)
 
 abbrev μ-loop : tie.MeasureT-loop
-μ-loop all first₀ second₀ before₀ counts₀ w₀ n₀ at₀ first second before counts w n at = length all - at
-
-new-requires : tie.Need-new-requires Inv-loop μ-loop
-new-requires c κs = search needs
+μ-loop all memory₀ state₀ counts₀ n₀ at₀ memory state counts n at = length all - at
 
 loop-holds : tie.Need-loop-holds Inv-loop μ-loop
 loop-holds c = search needs
@@ -42,12 +39,6 @@ loop-again c = search needs
 same-length : tie.Need-same-length Inv-loop μ-loop
 same-length c = search needs
 
-same-length-2 : tie.Need-same-length-2 Inv-loop μ-loop
-same-length-2 c = search needs
-
-same-length-3 : tie.Need-same-length-3 Inv-loop μ-loop
-same-length-3 c = search needs
-
 returns : tie.Need-returns Inv-loop μ-loop
 returns c = search needs
 
@@ -57,7 +48,6 @@ run-spec =
     (tie.spec
     Inv-loop
     μ-loop
-    new-requires
     loop-holds
     rest-requires
     before-requires
@@ -67,6 +57,4 @@ run-spec =
     loop-less
     loop-again
     same-length
-    same-length-2
-    same-length-3
     returns)

@@ -7,10 +7,10 @@ use Rattle.cases.proofs.put.fill.Statement.{statement}
 use Rattle.cases.proofs.put.fill.Tie as tie
 
 abbrev Inv-loop : tie.InvT-loop
-Inv-loop out₀ n b i₀ out i = (i ≤ n) × (length out ≡ length out₀)
+Inv-loop out₀ at n b end₀ i₀ out end i = (i ≤ n) × (length out ≡ length out₀)
 
 abbrev μ-loop : tie.MeasureT-loop
-μ-loop out₀ n b i₀ out i = n - i
+μ-loop out₀ at n b end₀ i₀ out end i = n - i
 
 loop-holds : tie.Need-loop-holds Inv-loop μ-loop
 loop-holds c = search needs

@@ -6,8 +6,8 @@ use lib.Seq.{length-take-le}
 use Rattle.cases.proofs.writes.write_in.Statement.{statement}
 use Rattle.cases.proofs.writes.write_in.Tie as tie
 
-unclear-requires : tie.Need-unclear-requires
-unclear-requires c κs = search needs
+added-requires : tie.Need-added-requires
+added-requires c κs = search needs
 
 returns : tie.Need-returns
 returns c = search needs
@@ -17,7 +17,7 @@ slice-relend-prefix-write c = search needs
 
 slice-aggregate-write : tie.Need-slice-aggregate-write
 slice-aggregate-write c =
-    let a = c .before .before .before .before .before .before .args in
+    let a = c .before .before .before .before .args in
     sym (length-take-le (a .len) (a .memory .now) (omega arith))
 
 write-requires : tie.Need-write-requires
@@ -26,12 +26,6 @@ write-requires c κs = search needs
 same-length : tie.Need-same-length
 same-length c = search needs
 
-same-length-2 : tie.Need-same-length-2
-same-length-2 c = search needs
-
-same-length-3 : tie.Need-same-length-3
-same-length-3 c = search needs
-
 returns-2 : tie.Need-returns-2
 returns-2 c = search needs
 
@@ -39,12 +33,10 @@ pub write-in-spec : {M : Type 1} → statement M
 write-in-spec =
     tie.close
     (tie.spec
-    unclear-requires
+    added-requires
     returns
     slice-relend-prefix-write
     slice-aggregate-write
     write-requires
     same-length
-    same-length-2
-    same-length-3
     returns-2)
