@@ -7,11 +7,11 @@ use Rattle.rule.specs.Moves.{Move}
 use Rattle.image.specs.EntryMoves.{EntryMove}
 use Rattle.table.specs.Memtable.{Freshens, Adds, Gets}
 use Rattle.table.specs.Presence.{Contains, ShowsRow}
-use Rattle.table.specs.MemtableIter.{Moves as EntryMoves}
+use Rattle.table.specs.MemtableIter.{MovesEntry as EntryMoves}
 use Rattle.table.proofs.OneAnswer as table
 use Rattle.cursor.specs.Moves.{Moves, Decided}
 use Rattle.cursor.specs.Pairs.{GetsPair}
-use Rattle.cursor.proofs.Unique as cursor
+use Rattle.cursor.proofs.OneAnswer as cursor
 use Rattle.capi.specs.Plain.{Plainly}
 use Rattle.capi.specs.Memtable.{plainFreshened, plainAdded, plainPresence, plainLookup, plainView}
 use Rattle.capi.specs.EntryIter.{entryCursorOf, plainEntryMoved}
@@ -33,7 +33,8 @@ once plain one p q = p .is ∙ ap plain (one (p .answer) (q .answer) (p .kept) (
 pub fresh-one : (xs ys zs : List ℕ) {r s : ℕ} → Plainly plainFreshened (λ a. Freshens xs a ys) r → Plainly plainFreshened (λ a. Freshens xs a zs) s → (r ≡ s) × (ys ≡ zs)
 fresh-one xs ys zs p q = let (e, f) = table.fresh-one xs (p .answer) (q .answer) ys zs (p .kept) (q .kept) in (p .is ∙ ap plainFreshened e ∙ sym (q .is), f)
 
-pub add-one-answer : (xs : List ℕ) (e : Entry) (h : ℕ) (ys zs : List ℕ) {r s : BavoAdded} → Plainly plainAdded (λ a. Adds xs e h a ys) r → Plainly plainAdded (λ a. Adds xs e h a zs) s → (r ≡ s) × (ys ≡ zs)
+pub add-one-answer : (xs : List ℕ) (e : Entry) (h : ℕ) (ys zs : List ℕ) {r s : BavoAdded} → Plainly plainAdded (λ a. Adds xs e h a ys) r
+    → Plainly plainAdded (λ a. Adds xs e h a zs) s → (r ≡ s) × (ys ≡ zs)
 add-one-answer xs e h ys zs p q = let (d, f) = table.add-one-answer xs e h (p .answer) (q .answer) ys zs (p .kept) (q .kept) in (p .is ∙ ap plainAdded d ∙ sym (q .is), f)
 
 pub contains-one : (xs k : List ℕ) (n kind : ℕ) {r s : BavoPresence} → Plainly plainPresence (λ a. Contains xs k n kind a) r → Plainly plainPresence (λ a. Contains xs k n kind a) s → r ≡ s
@@ -45,7 +46,9 @@ get-one xs k t = once plainLookup (table.get-one xs k t)
 pub get-value-one : (xs k : List ℕ) (t : ℕ) {r s : BavoView} → Plainly plainView (λ a. ShowsRow xs k t a) r → Plainly plainView (λ a. ShowsRow xs k t a) s → r ≡ s
 get-value-one xs k t = once plainView (table.row-span-one xs k t)
 
-pub entry-move-one : (xs : List ℕ) (m : EntryMove) (at : BavoEntryCursor) {r s : BavoEntryMoved} → Plainly (plainEntryMoved at) (λ a. EntryMoves xs m (entryCursorOf at) a) r → Plainly (plainEntryMoved at) (λ a. EntryMoves xs m (entryCursorOf at) a) s → r ≡ s
+pub entry-move-one : (xs : List ℕ) (m : EntryMove) (at : BavoEntryCursor) {r s : BavoEntryMoved}
+    → Plainly (plainEntryMoved at) (λ a. EntryMoves xs m (entryCursorOf at) a) r → Plainly (plainEntryMoved at) (λ a. EntryMoves xs m (entryCursorOf at) a) s
+    → r ≡ s
 entry-move-one xs m at = once (plainEntryMoved at) (table.move-one xs m (entryCursorOf at))
 
 pub pair-one : (f g k : List ℕ) (t : ℕ) {r s : BavoPairLookup} → Plainly plainPairLookup (λ a. GetsPair f g k t a) r → Plainly plainPairLookup (λ a. GetsPair f g k t a) s → r ≡ s

@@ -10,7 +10,7 @@ use Rattle.image.specs.Sound.{headerHolds}
 use Rattle.image.specs.Refusals.{refused, numberOf, noNode}
 use Rattle.image.specs.EntryMoves.{on, EntryMove, entryMove}
 use Rattle.table.specs.Refusals.{refusalIs}
-use Rattle.table.specs.MemtableIter.{movedAs, Moves as EntryMoves}
+use Rattle.table.specs.MemtableIter.{movedAs, MovesEntry as EntryMoves}
 use Rattle.cursor.specs.Places.{place}
 use Rattle.cursor.specs.Moves.{asked, MovedIs, movedAs as visibleAs, RefusedWith, Moves}
 use Rattle.capi.specs.Plain.{Plainly}

@@ -10,7 +10,7 @@ use Rattle.image.specs.Words.{part}
 use Rattle.image.specs.Refusals.{Answer, refused, given, numberOf, refusalOf}
 use Rattle.image.specs.EntryMoves.{Cursor, Span, emptySpan, keySpan, valueSpan, partsOn, viewed, keyView, valueView, viewRefusal}
 use Rattle.table.specs.EntryViews.{spanAs, SpanLies, Spans}
-use Rattle.table.proofs.Views.{same-refusal}
+use Rattle.table.proofs.EntryViewsLaws.{same-refusal}
 use Rattle.cursor.specs.Places.{imageOf}
 use Rattle.cursor.specs.Rows.{ShowsKey, ShowsValue, Refuses}
 use Rattle.cursor.specs.RowSpans.{PartIn, rowSpanAs, View, rowSpan, partBytes, RowSpanLies, RowSpans}

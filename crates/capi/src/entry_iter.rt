@@ -1,7 +1,7 @@
 // The entry cursor of one table, and its views.
 ghost use mathlib.Core.Path.{_≡_};
 ghost use Rattle.image.specs.EntryMoves.{first, seek, next, previous, keyView, valueView, numberView, kindView, viewRefusal};
-ghost use Rattle.table.specs.MemtableIter.{cursorIs, Moves};
+ghost use Rattle.table.specs.MemtableIter.{cursorIs, MovesEntry};
 ghost use Rattle.table.specs.EntryViews.{shownNumber};
 ghost use Rattle.table.specs.EntryViews.{Spans};
 ghost use Rattle.capi.specs.Plain.{Plainly};
@@ -77,7 +77,7 @@ fn plain_entry_moved(at: BavoEntryCursor, a: EntryMoved) -> BavoEntryMoved
 // To the first entry. Refusals 1, 10, 9.
 #[no_mangle]
 pub extern "C" fn bavo_entry_first(image: &[u8], at: BavoEntryCursor) -> BavoEntryMoved
-    ensures { λ r. ⌜ Plainly (plainEntryMoved at) (λ a. Moves (now (image .entry)) first (entryCursorOf at) a) r ⌝ }
+    ensures { λ r. ⌜ Plainly (plainEntryMoved at) (λ a. MovesEntry (now (image .entry)) first (entryCursorOf at) a) r ⌝ }
 {
     plain_entry_moved(at, entry_first(image, entry_cursor_of(at)))
 }
@@ -90,7 +90,7 @@ pub extern "C" fn bavo_entry_seek(
     key: &[u8],
     number: u64,
 ) -> BavoEntryMoved
-    ensures { λ r. ⌜ Plainly (plainEntryMoved at) (λ a. Moves (now (image .entry)) (seek (now (key .entry)) number) (entryCursorOf at) a) r ⌝ }
+    ensures { λ r. ⌜ Plainly (plainEntryMoved at) (λ a. MovesEntry (now (image .entry)) (seek (now (key .entry)) number) (entryCursorOf at) a) r ⌝ }
 {
     plain_entry_moved(at, entry_seek(image, entry_cursor_of(at), key, number))
 }
@@ -98,7 +98,7 @@ pub extern "C" fn bavo_entry_seek(
 // To the next entry. Refusals 1, 10, 9.
 #[no_mangle]
 pub extern "C" fn bavo_entry_next(image: &[u8], at: BavoEntryCursor) -> BavoEntryMoved
-    ensures { λ r. ⌜ Plainly (plainEntryMoved at) (λ a. Moves (now (image .entry)) next (entryCursorOf at) a) r ⌝ }
+    ensures { λ r. ⌜ Plainly (plainEntryMoved at) (λ a. MovesEntry (now (image .entry)) next (entryCursorOf at) a) r ⌝ }
 {
     plain_entry_moved(at, entry_next(image, entry_cursor_of(at)))
 }
@@ -106,7 +106,7 @@ pub extern "C" fn bavo_entry_next(image: &[u8], at: BavoEntryCursor) -> BavoEntr
 // To the entry before. Refusals 1, 10, 9.
 #[no_mangle]
 pub extern "C" fn bavo_entry_prev(image: &[u8], at: BavoEntryCursor) -> BavoEntryMoved
-    ensures { λ r. ⌜ Plainly (plainEntryMoved at) (λ a. Moves (now (image .entry)) previous (entryCursorOf at) a) r ⌝ }
+    ensures { λ r. ⌜ Plainly (plainEntryMoved at) (λ a. MovesEntry (now (image .entry)) previous (entryCursorOf at) a) r ⌝ }
 {
     plain_entry_moved(at, entry_prev(image, entry_cursor_of(at)))
 }

@@ -26,7 +26,7 @@ use Rattle.table.specs.Memtable.{lookupAs, Gets}
 use Rattle.table.specs.Growth.{Additions, Filled}
 use Rattle.table.specs.declared.memtable.Lookup.{Lookup}
 use Rattle.table.specs.declared.memtable.Lookup.the-variants as lookup
-use Rattle.table.proofs.Lookups.{get-number, get-key}
+use Rattle.table.proofs.MemtableLaws.{get-number, get-key}
 use Rattle.table.proofs.Growth.{additions-held, filled-sound, filled-held}
 use Rattle.cursor.specs.Moves.{movedAs, Moves}
 use Rattle.cursor.specs.Runs.{Tables, entriesOf, Shows, Moment, seenIn, Run, Alike, Lockstep, movesIn, Still, SameMembers, Later, Learnt, found, deleted, absent, refused, learnt}

@@ -27,10 +27,10 @@ use Rattle.image.proofs.Refusals.{refused-given}
 use Rattle.table.specs.Memtable.{Adds}
 use Rattle.table.specs.Growth.{Begun, Additions}
 use Rattle.table.specs.Growth as growth
-use Rattle.table.proofs.Answers.{fresh-done, adds}
+use Rattle.table.proofs.MemtableLaws.{fresh-done, adds}
 use Rattle.table.proofs.Growth.{add-keeps, add-node, begun-sound, additions-grow, additions-held, filled-held}
 use Rattle.table.specs.declared.memtable.Added.the-variants as added
-use Rattle.cursor.specs.Places.{imageOf, place, entryAt, earlier, PlaceIn}
+use Rattle.cursor.specs.Places.{imageOf, place, entryAt, heldBefore, PlaceIn}
 use Rattle.cursor.specs.Moves.{keyGiven, startKey, Ahead}
 use Rattle.cursor.specs.Rows.{valueIn}
 use Rattle.cursor.specs.Runs.{Tables, entriesOf, Moment, seenIn, Run, begun, moved, Alike, Lockstep}
@@ -182,7 +182,8 @@ agree-by : (s : ℕ) (es fs : List Entry) → All (λ e. e .number ≤ s → Lis
 agree-by s es fs i j e h = (λ m. i e m h, λ m. j e m h)
 
 agree-first : Agree 2 (entriesOf left) (entriesOf right)
-agree-first = rw (held-left, held-right) (agree-by 2 _ _ (all-cons (λ _. List·Memᴰ·tail here) (all-cons (λ _. here) (all-nil _))) (all-cons (λ _. List·Memᴰ·tail here) (all-cons (λ _. here) (all-nil _))))
+agree-first =
+    rw (held-left, held-right) (agree-by 2 _ _ (all-cons (λ _. List·Memᴰ·tail here) (all-cons (λ _. here) (all-nil _))) (all-cons (λ _. List·Memᴰ·tail here) (all-cons (λ _. here) (all-nil _))))
 
 agree-after : Agree 2 (entriesOf leftLater) (entriesOf right)
 agree-after = rw (held-later, held-right) (agree-by 2 _ _
@@ -224,7 +225,10 @@ right-a : Stands right (place Second 2) (put a 1 x)
 right-a = stands right Second q1 sound-q1 (put a 1 x) 3 2 adding-a′
 
 right-b : Stands right (place Second 1) (put b 2 y)
-right-b = let g = add-keeps q1 sound-q1 (put a 1 x) 3 2 q2 adding-a′ in let (n, q) = add-node q0 sound-q0 (put b 2 y) 1 1 q1 adding-b′ in record { inside = g .node-kept 1 n; entry = g .entry-kept 1 n ∙ q }
+right-b =
+    let g = add-keeps q1 sound-q1 (put a 1 x) 3 2 q2 adding-a′ in
+    let (n, q) = add-node q0 sound-q0 (put b 2 y) 1 1 q1 adding-b′ in
+    record { inside = g .node-kept 1 n; entry = g .entry-kept 1 n ∙ q }
 
 -- ---- the moves: first, next, previous
 
@@ -239,7 +243,7 @@ module _ {t : Tables} {c : Cursor} {ms : List Moment} (m : Run 2 t c ms) {u : Ta
 
   pub goes : (v : Move) → askedOf 2 (keyGiven v) ≡ given tt → (ds : List Entry) → entriesOf u ≡ ds → (k : Maybe (List ℕ)) → startKey (u .first) (u .second) c ≡ k
       → (p : Place) (e : Entry) → Stands u p e → target v 2 k ds ≡ some (e .key) → newest (e .key) 2 ds ≡ some e → e .kind ≡ valueKind → Ahead v k (e .key)
-      → All (λ d. fits (e .key) 2 d ≡ true → d .number < e .number) (earlier (p .table) (u .first))
+      → All (λ d. fits (e .key) 2 d ≡ true → d .number < e .number) (heldBefore (p .table) (u .first))
       → Run 2 u (On p) (moment u v (e .key) (e .value) ∷ ms)
   goes v o ds d k q p e s z n w x l = moved u v (To (On p)) (some (record { key = e .key; value = e .value })) m i j (record {
     refused = λ r f. absurd (refused-given (sym f ∙ asked-whole u c whole 2 (keyGiven v) ∙ o));
@@ -273,26 +277,32 @@ left-run : Run 2 leftLater (On (place First 1)) (moment leftLater previous a x �
 unfolding compareKeys
 left-run =
     let m = goes left-begun add-a add-b first refl (put a 1 x ∷ put b 2 y ∷ []) held-left none refl (place First 1) (put a 1 x) left-a refl refl refl tt (all-nil _) in
-    let n = goes m add-later growth.none next refl (put a 1 x ∷ gone a 7 ∷ put b 2 y ∷ []) held-later (some a) (ap (λ (e : Entry). some (e .key)) (later-a .entry)) (place Second 1) (put b 2 y) later-b refl refl refl refl
+    let n = goes m add-later growth.none next refl (put a 1 x ∷ gone a 7 ∷ put b 2 y ∷ []) held-later (some a) (ap (λ (e : Entry). some (e .key)) (later-a .entry))
+    (place Second 1) (put b 2 y) later-b refl refl refl refl
     (rw held-f2 (all-cons (λ h. absurd (false≢true h)) (all-cons (λ h. absurd (false≢true h)) (all-nil _)))) in
-    goes n growth.none growth.none previous refl (put a 1 x ∷ gone a 7 ∷ put b 2 y ∷ []) held-later (some b) (ap (λ (e : Entry). some (e .key)) (later-b .entry)) (place First 1) (put a 1 x) later-a refl refl refl refl (all-nil _)
+    goes n growth.none growth.none previous refl (put a 1 x ∷ gone a 7 ∷ put b 2 y ∷ []) held-later (some b) (ap (λ (e : Entry). some (e .key)) (later-b .entry))
+    (place First 1) (put a 1 x) later-a refl refl refl refl (all-nil _)
 
 right-run : Run 2 right (On (place Second 2)) (moment right previous a x ∷ moment right next b y ∷ moment right first a x ∷ [])
 unfolding compareKeys
 right-run =
     let m = goes right-begun growth.none add-both first refl (put b 2 y ∷ put a 1 x ∷ []) held-right none refl (place Second 2) (put a 1 x) right-a refl refl refl tt (nothing-first _) in
-    let n = goes m growth.none growth.none next refl (put b 2 y ∷ put a 1 x ∷ []) held-right (some a) (ap (λ (e : Entry). some (e .key)) (right-a .entry)) (place Second 1) (put b 2 y) right-b refl refl refl refl (nothing-first _) in
-    goes n growth.none growth.none previous refl (put b 2 y ∷ put a 1 x ∷ []) held-right (some b) (ap (λ (e : Entry). some (e .key)) (right-b .entry)) (place Second 2) (put a 1 x) right-a refl refl refl refl (nothing-first _)
+    let n = goes m growth.none growth.none next refl (put b 2 y ∷ put a 1 x ∷ []) held-right (some a) (ap (λ (e : Entry). some (e .key)) (right-a .entry))
+    (place Second 1) (put b 2 y) right-b refl refl refl refl (nothing-first _) in
+    goes n growth.none growth.none previous refl (put b 2 y ∷ put a 1 x ∷ []) held-right (some b) (ap (λ (e : Entry). some (e .key)) (right-b .entry))
+    (place Second 2) (put a 1 x) right-a refl refl refl refl (nothing-first _)
   where
     nothing-first : (P : Entry → Type 0) → All P (held p0)
     nothing-first P = rw held-none (all-nil P)
 
 -- they are in lockstep, and the theorem says of them: first a=x, next b=y, previous a=x, the deleted a among them
-pub case-lockstep : Lockstep 2 (moment leftLater previous a x ∷ moment leftLater next b y ∷ moment left first a x ∷ []) (moment right previous a x ∷ moment right next b y ∷ moment right first a x ∷ [])
+pub case-lockstep : Lockstep 2 (moment leftLater previous a x ∷ moment leftLater next b y ∷ moment left first a x ∷ [])
+    (moment right previous a x ∷ moment right next b y ∷ moment right first a x ∷ [])
 case-lockstep = (refl, alike-after, (refl, alike-after, (refl, record { agree = agree-first; single = single-first }, tt)))
   where
     alike-after : Alike 2 (entriesOf leftLater) (entriesOf right)
     alike-after = record { agree = agree-after; single = single-after }
 
-pub case-rows : seenIn (moment leftLater previous a x ∷ moment leftLater next b y ∷ moment left first a x ∷ []) ≡ seenIn (moment right previous a x ∷ moment right next b y ∷ moment right first a x ∷ [])
+pub case-rows : seenIn (moment leftLater previous a x ∷ moment leftLater next b y ∷ moment left first a x ∷ []) ≡ seenIn
+    (moment right previous a x ∷ moment right next b y ∷ moment right first a x ∷ [])
 case-rows = same-rows 2 left-run right-run case-lockstep

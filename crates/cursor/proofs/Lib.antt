@@ -5,7 +5,7 @@ pub mod Moves
 pub mod Rows
 pub mod RowSpans
 pub mod Pairs
-pub mod Unique
+pub mod OneAnswer
 pub mod Growth
 pub mod Lockstep
 pub mod RowsSeen

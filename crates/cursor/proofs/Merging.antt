@@ -31,8 +31,9 @@ use Rattle.table.specs.declared.questions.Hit.the-variants as hit
 use Rattle.table.specs.declared.questions.NewestAt.{NewestAt}
 use Rattle.table.specs.declared.questions.NewestAt.the-variants as newestAt
 use Rattle.table.proofs.Laws.{number-told}
-use Rattle.cursor.specs.Places.{imageOf, earlier, all, place, entryAt, keyAt, numberAt, PlaceIn}
-use Rattle.cursor.specs.Merging.{metAt, metIn, nearerOf, soonerOf, HasNode, MeetingIn, NearDamaged, NearestOver, NearestIs, versionIn, newerOf, kindOf, VersionIn, NewestDamaged, NewestOver, NewestIs}
+use Rattle.cursor.specs.Places.{imageOf, heldBefore, allEntries, place, entryAt, keyAt, numberAt, PlaceIn}
+use Rattle.cursor.specs.Merging.{metAt, metIn, nearerOf, soonerOf, HasNode, MeetingIn, NearDamaged, NearestOver, NearestOfAll, versionIn, newerOf, kindOf}
+use Rattle.cursor.specs.Merging.{VersionIn, NewestDamaged, NewestOver, NewestOfAll}
 use Rattle.cursor.specs.declared.places.Side.{Side}
 use Rattle.cursor.specs.declared.places.Side.the-variants.{First, Second}
 use Rattle.cursor.specs.declared.places.Place.{Place}
@@ -95,11 +96,11 @@ module _ (f g : List ℕ) (c : Cut) (t : List ℕ) where
   met-over side hit.Nothing n = record { rule = λ x y. n .rule (sound-of f g x y side); lands = tt }
   met-over side hit.Damaged n = record { rule = λ x y. n .rule (sound-of f g x y side); lands = near-hurt side (sym (n .exact)) }
 
-  join : (a b : Maybe (List ℕ)) → Least (cmpOf c) (admits c t) (held f) a → Least (cmpOf c) (admits c t) (held g) b → Least (cmpOf c) (admits c t) (all f g) (sooner (cmpOf c) a b)
+  join : (a b : Maybe (List ℕ)) → Least (cmpOf c) (admits c t) (held f) a → Least (cmpOf c) (admits c t) (held g) b → Least (cmpOf c) (admits c t) (allEntries f g) (sooner (cmpOf c) a b)
   join a b = least-append (cmpOf c) (way c) (admits c t) (held f) (held g) a b
 
   nearer-over : (i j : ℕ) → NearestOver (held f) f g c t (nearest.At (metAt First i)) → NearestOver (held g) f g c t (nearest.At (metAt Second j))
-      → NearestIs f g c t (nearest.At (nearerOf (keyAt f g) c (metAt First i) (metAt Second j)))
+      → NearestOfAll f g c t (nearest.At (nearerOf (keyAt f g) c (metAt First i) (metAt Second j)))
   nearer-over i j a b = go (isLess (cmpOf c l k)) refl (isLess (cmpOf c k l)) refl (λ u v. join (some k) (some l) (a .rule u v) (b .rule u v))
     where
       k : List ℕ
@@ -112,8 +113,8 @@ module _ (f g : List ℕ) (c : Cut) (t : List ℕ) where
       same : k ≡ l → entryOf g j .key ≡ entryOf f i .key
       same e = sym (key-read g j (b .lands .reads .readable)) ∙ sym e ∙ key-read f i (a .lands .reads .readable)
 
-      go : (p : Bool) → isLess (cmpOf c l k) ≡ p → (q : Bool) → isLess (cmpOf c k l) ≡ q → (Sound f → Sound g → Least (cmpOf c) (admits c t) (all f g) (some (cond p l k)))
-          → NearestIs f g c t (nearest.At (cond p (metAt Second j) (cond q (metAt First i) (record { place = place First i; first = true; second = true }))))
+      go : (p : Bool) → isLess (cmpOf c l k) ≡ p → (q : Bool) → isLess (cmpOf c k l) ≡ q → (Sound f → Sound g → Least (cmpOf c) (admits c t) (allEntries f g) (some (cond p l k)))
+          → NearestOfAll f g c t (nearest.At (cond p (metAt Second j) (cond q (metAt First i) (record { place = place First i; first = true; second = true }))))
       go true e q d h = record { rule = h; lands = b .lands }
       go false e true d h = record { rule = h; lands = a .lands }
       go false e false d h = record {
@@ -128,10 +129,10 @@ module _ (f g : List ℕ) (c : Cut) (t : List ℕ) where
       }
 
   -- the sooner of both
-  sooner-over : (a b : Hit) → Nears f c t a → Nears g c t b → NearestIs f g c t (soonerOf (keyAt f g) c (metIn First a) (metIn Second b))
+  sooner-over : (a b : Hit) → Nears f c t a → Nears g c t b → NearestOfAll f g c t (soonerOf (keyAt f g) c (metIn First a) (metIn Second b))
   sooner-over a b m n = go a b (met-over First a m) (met-over Second b n)
     where
-      go : (a b : Hit) → NearestOver (held f) f g c t (metIn First a) → NearestOver (held g) f g c t (metIn Second b) → NearestIs f g c t (soonerOf (keyAt f g) c (metIn First a) (metIn Second b))
+      go : (a b : Hit) → NearestOver (held f) f g c t (metIn First a) → NearestOver (held g) f g c t (metIn Second b) → NearestOfAll f g c t (soonerOf (keyAt f g) c (metIn First a) (metIn Second b))
       go hit.Damaged b x y = record { rule = λ u v. absurd (x .rule u v); lands = x .lands }
       go hit.Nothing hit.Damaged x y = record { rule = λ u v. absurd (y .rule u v); lands = y .lands }
       go hit.Nothing hit.Nothing x y = record { rule = λ u v. join none none (x .rule u v) (y .rule u v); lands = tt }
@@ -140,7 +141,7 @@ module _ (f g : List ℕ) (c : Cut) (t : List ℕ) where
       go (hit.At i) hit.Nothing x y = record { rule = λ u v. join (some (keyAt f g (place First i))) none (x .rule u v) (y .rule u v); lands = x .lands }
       go (hit.At i) (hit.At j) x y = nearer-over i j x y
 
-  pub nearest-both : {p q r : Nearest} (a b : Hit) → Nears f c t a → p ≡ metIn First a → Nears g c t b → q ≡ metIn Second b → r ≡ soonerOf (keyAt f g) c p q → NearestIs f g c t r
+  pub nearest-both : {p q r : Nearest} (a b : Hit) → Nears f c t a → p ≡ metIn First a → Nears g c t b → q ≡ metIn Second b → r ≡ soonerOf (keyAt f g) c p q → NearestOfAll f g c t r
   nearest-both a b x d y e h = rw (h, d, e) (sooner-over a b x y)
 
 -- the nearer by cases
@@ -177,7 +178,7 @@ on-side side a e = rw e (go a)
     go newestAt.Damaged = tt
 
 -- what holds of the first table's entries holds of those before a place of the second
-before-second : (f : List ℕ) (P : Entry → Type 0) (side : Side) → side ≡ Second → All P (held f) → All P (earlier side f)
+before-second : (f : List ℕ) (P : Entry → Type 0) (side : Side) → side ≡ Second → All P (held f) → All P (heldBefore side f)
 before-second f P side e h = rw e h
 
 module _ (f g : List ℕ) (k : List ℕ) (s : ℕ) where
@@ -198,12 +199,12 @@ module _ (f g : List ℕ) (k : List ℕ) (s : ℕ) where
       go newestAt.Absent n = record { rule = λ x y. n .rule (sound-of f g x y side); lands = tt }
       go newestAt.Damaged n = record { rule = λ x y. n .rule (sound-of f g x y side); lands = newest-hurt side (sym (n .exact)) }
 
-  together : (a b : Maybe Entry) → newest k s (held f) ≡ a → newest k s (held g) ≡ b → newest k s (all f g) ≡ latest a b
+  together : (a b : Maybe Entry) → newest k s (held f) ≡ a → newest k s (held g) ≡ b → newest k s (allEntries f g) ≡ latest a b
   together a b x y = newest-append k s (held f) (held g) ∙ rw (x, y)
 
   -- the newer of both; of equal numbers the first table's
   newer-at : (v w : Version) → NewestOver (held f) f g k s (newer.At v) → NewestOver (held g) f g k s (newer.At w) → v .place .table ≡ First → w .place .table ≡ Second
-      → NewestIs f g k s (cond (ltb (numberAt f g (v .place)) (numberAt f g (w .place))) (newer.At w) (newer.At v))
+      → NewestOfAll f g k s (cond (ltb (numberAt f g (v .place)) (numberAt f g (w .place))) (newer.At w) (newer.At v))
   newer-at v w a b sa sb = go (ltb m n) refl
     where
       m : ℕ
@@ -212,13 +213,13 @@ module _ (f g : List ℕ) (k : List ℕ) (s : ℕ) where
       n : ℕ
       n = numberAt f g (w .place)
 
-      both : (x : Sound f) (y : Sound g) → newest k s (all f g) ≡ some (cond (ltb m n) (entryAt f g (w .place)) (entryAt f g (v .place)))
+      both : (x : Sound f) (y : Sound g) → newest k s (allEntries f g) ≡ some (cond (ltb m n) (entryAt f g (w .place)) (entryAt f g (v .place)))
       both x y =
           let i = number-at-told f g x y (v .place) (a .lands .reads .inside) in
           let j = number-at-told f g x y (w .place) (b .lands .reads .inside) in
           together (some (entryAt f g (v .place))) (some (entryAt f g (w .place))) (a .rule x y .0) (b .rule x y .0) ∙ rw (i, j)
 
-      go : (t : Bool) → ltb m n ≡ t → NewestIs f g k s (cond t (newer.At w) (newer.At v))
+      go : (t : Bool) → ltb m n ≡ t → NewestOfAll f g k s (cond t (newer.At w) (newer.At v))
       go true e = record {
         over = record { rule = λ x y. (rw e at (both x y), b .rule x y .1); lands = b .lands };
         first = λ x y. before-second f _ (w .place .table) sb (λ d i z. let h = known k s (held f) (some (entryAt f g (v .place))) (a .rule x y .0) .2 d i (fits-true k s d z) in
@@ -229,10 +230,10 @@ module _ (f g : List ℕ) (k : List ℕ) (s : ℕ) where
         first = λ x y. rw sa (all-nil _);
       }
 
-  newer-over : {r : Newest} (a b : Newest) → NewestOver (held f) f g k s a → NewestOver (held g) f g k s b → OnSide First a → OnSide Second b → r ≡ newerOf (numberAt f g) a b → NewestIs f g k s r
+  newer-over : {r : Newest} (a b : Newest) → NewestOver (held f) f g k s a → NewestOver (held g) f g k s b → OnSide First a → OnSide Second b → r ≡ newerOf (numberAt f g) a b → NewestOfAll f g k s r
   newer-over a b x y p q e = rw e (go a b x y p q)
     where
-      go : (a b : Newest) → NewestOver (held f) f g k s a → NewestOver (held g) f g k s b → OnSide First a → OnSide Second b → NewestIs f g k s (newerOf (numberAt f g) a b)
+      go : (a b : Newest) → NewestOver (held f) f g k s a → NewestOver (held g) f g k s b → OnSide First a → OnSide Second b → NewestOfAll f g k s (newerOf (numberAt f g) a b)
       go newer.Damaged b x y p q = record { over = record { rule = λ u v. absurd (x .rule u v); lands = x .lands }; first = λ u v. tt }
       go newer.Nothing newer.Damaged x y p q = record { over = record { rule = λ u v. absurd (y .rule u v); lands = y .lands }; first = λ u v. tt }
       go newer.Nothing newer.Nothing x y p q = record { over = record { rule = λ u v. together none none (x .rule u v) (y .rule u v); lands = tt }; first = λ u v. tt }
@@ -247,7 +248,8 @@ module _ (f g : List ℕ) (k : List ℕ) (s : ℕ) where
       }
       go (newer.At v) (newer.At w) x y p q = newer-at v w x y p q
 
-  pub newest-both : {p q r : Newest} (a b : NewestAt) → TellsNewest f k s a → p ≡ versionIn First a → TellsNewest g k s b → q ≡ versionIn Second b → r ≡ newerOf (numberAt f g) p q → NewestIs f g k s r
+  pub newest-both : {p q r : Newest} (a b : NewestAt) → TellsNewest f k s a → p ≡ versionIn First a → TellsNewest g k s b → q ≡ versionIn Second b
+      → r ≡ newerOf (numberAt f g) p q → NewestOfAll f g k s r
   newest-both {p} {q} a b x d y e h = newer-over p q (version-over First a x d) (version-over Second b y e) (on-side First a d) (on-side Second b e) h
 
 -- the newer by cases

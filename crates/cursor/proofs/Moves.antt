@@ -31,8 +31,8 @@ use Rattle.table.specs.declared.memtable_iter.CursorTest.the-variants as test
 use Rattle.table.proofs.Laws.{in-table, first-behind, seek-behind, next-behind, next-nowhere, previous-behind}
 use Rattle.cursor.proofs.Headers.{headers-hold, headers-refused}
 use Rattle.cursor.proofs.Merging.{sound-of, key-told}
-use Rattle.cursor.specs.Places.{imageOf, all, entryAt, keyAt, CursorIn, HeadersHold, inside, refusalAt}
-use Rattle.cursor.specs.Walks.{bestOf, LandsOn, WalkDamaged, Ends, FoundIn, Walked}
+use Rattle.cursor.specs.Places.{imageOf, allEntries, entryAt, keyAt, CursorIn, HeadersHold, inside, refusalAt}
+use Rattle.cursor.specs.Walks.{bestOf, LandsOn, WalkDamaged, Ends, FoundLands, Walked}
 use Rattle.cursor.specs.Moves.{asked, testAs, keyGiven, startKey, MovedIs, movedAs, movedOf, LeadsTo, Ahead, Lands, NowhereOr, EndsOn, DamagedFrom, MeetsDamage, LandsIn, Went, WentFrom, Moves}
 use Rattle.cursor.specs.declared.places.Side.{Side}
 use Rattle.cursor.specs.declared.places.Side.the-variants.{First, Second}
@@ -115,7 +115,7 @@ went f g s c t at a k e = rw e (record { rule = λ x y. same (bestOf f g s c t) 
     same (some l) found.Nothing h = absurd h
     same (some l) found.Damaged h = absurd h
 
-    within : (a : Found) → FoundIn f g s c t a → EndsOn (LandsOn f g s c t) (WalkDamaged f g s c t) at (movedAs (movedOf a at))
+    within : (a : Found) → FoundLands f g s c t a → EndsOn (LandsOn f g s c t) (WalkDamaged f g s c t) at (movedAs (movedOf a at))
     within (found.At p) h = inl (refl, h)
     within found.Nothing h = inl (refl, tt)
     within found.Damaged h = inr (refl, h)
@@ -148,7 +148,8 @@ module _ (f g : List ℕ) (s : ℕ) (c : Cut) (p : Place) (at : Cursor) {n : ℕ
 -- ---- the moves
 
 -- what is behind the cut of a move lies onward
-onward : (v : Move) (f g : List ℕ) (s : ℕ) (d : Cut) (k : List ℕ) (c : Cursor) → ((l : List ℕ) → admits d k l ≡ true → Ahead v (startKey f g c) l) → (p : Place) → LandsOn f g s d k p → Lands v f g s c p
+onward : (v : Move) (f g : List ℕ) (s : ℕ) (d : Cut) (k : List ℕ) (c : Cursor) → ((l : List ℕ) → admits d k l ≡ true → Ahead v (startKey f g c) l) → (p : Place)
+    → LandsOn f g s d k p → Lands v f g s c p
 onward v f g s d k c h p m = record {
   inside = m .reads .inside;
   readable = m .reads .readable;
@@ -170,50 +171,50 @@ module _ (v : Move) (f g : List ℕ) (s : ℕ) (c : Cursor) {t : MoveTest} (e : 
 
   module _ (h : t ≡ Passed) where
     -- a move that leads to its target
-    leads : (r : Moved) → (Sound f → Sound g → CursorIn f g c → LeadsTo f g s (target v s (startKey f g c) (all f g)) (movedAs r)) → LandsIn v f g s c (movedAs r) → Moves v f g s c r
+    leads : (r : Moved) → (Sound f → Sound g → CursorIn f g c → LeadsTo f g s (target v s (startKey f g c) (allEntries f g)) (movedAs r)) → LandsIn v f g s c (movedAs r) → Moves v f g s c r
     leads r a b = record {
       refused = λ q d. absurd (refused-given (sym d ∙ sym e ∙ ap testAs h));
       rule = λ d x y. a x y (asked-inside f g s c (keyGiven v) d);
       lands = λ d. b;
     }
 
-    pub move-went : (r : Moved) (d : Cut) (k : List ℕ) → target v s (startKey f g c) (all f g) ≡ bestOf f g s d k → ((l : List ℕ) → admits d k l ≡ true → Ahead v (startKey f g c) l)
+    pub move-went : (r : Moved) (d : Cut) (k : List ℕ) → target v s (startKey f g c) (allEntries f g) ≡ bestOf f g s d k → ((l : List ℕ) → admits d k l ≡ true → Ahead v (startKey f g c) l)
         → (WalkDamaged f g s d k → MeetsDamage v f g s c) → Went f g s d k c r → Moves v f g s c r
     move-went r d k q a m w =
         leads r (λ x y _. subst (λ (n : Maybe (List ℕ)). LeadsTo f g s n (movedAs r)) (sym q) (w .rule x y)) (ends-on c (movedAs r) (onward v f g s d k c a) m (w .lands))
 
-    pub move-from : (r : Moved) (d : Cut) {p : Place} → c ≡ On p → target v s (some (entryAt f g p .key)) (all f g) ≡ bestOf f g s d (entryAt f g p .key)
+    pub move-from : (r : Moved) (d : Cut) {p : Place} → c ≡ On p → target v s (some (entryAt f g p .key)) (allEntries f g) ≡ bestOf f g s d (entryAt f g p .key)
         → ((l : List ℕ) → admits d (entryAt f g p .key) l ≡ true → Ahead v (some (entryAt f g p .key)) l)
         → (DamagedFrom f g s d p → MeetsDamage v f g s (On p)) → WentFrom f g s d p (On p) r → Moves v f g s c r
     move-from r d {p} z q a m w =
         let k = entryAt f g p .key in
-        let e = sym q ∙ sym (ap (λ (o : Cursor). target v s (startKey f g o) (all f g)) z) in
+        let e = sym q ∙ sym (ap (λ (o : Cursor). target v s (startKey f g o) (allEntries f g)) z) in
         let l = ends-on (On p) (movedAs r) (onward v f g s d k (On p) a) m (w .lands) in
         leads r (λ x y i. subst (λ (n : Maybe (List ℕ)). LeadsTo f g s n (movedAs r)) e (w .rule x y (rw z at i))) (subst (λ (o : Cursor). LandsIn v f g s o (movedAs r)) (sym z) l)
 
 module _ (f g : List ℕ) (s : ℕ) (c : Cursor) {t : MoveTest} (h : t ≡ Passed) where
   pub move-first : testAs t ≡ asked f g s c [] → {r : Moved} → Went f g s cut.all [] c r → Moves rule.first f g s c r
-  move-first e {r} w = move-went rule.first f g s c e h r cut.all [] (first-behind s (all f g) [] (startKey f g c)) (λ l _. tt) (λ m. m) w
+  move-first e {r} w = move-went rule.first f g s c e h r cut.all [] (first-behind s (allEntries f g) [] (startKey f g c)) (λ l _. tt) (λ m. m) w
 
   pub move-seek : {k : List ℕ} → testAs t ≡ asked f g s c k → {r : Moved} → Went f g s cut.from k c r → Moves (rule.seek k) f g s c r
-  move-seek {k} e {r} w = move-went (rule.seek k) f g s c e h r cut.from k (seek-behind s (all f g) k (startKey f g c)) (λ l a. not-true (isLess (compareKeys l k)) a) (λ m. m) w
+  move-seek {k} e {r} w = move-went (rule.seek k) f g s c e h r cut.from k (seek-behind s (allEntries f g) k (startKey f g c)) (λ l a. not-true (isLess (compareKeys l k)) a) (λ m. m) w
 
   module _ (e : testAs t ≡ asked f g s c []) where
     pub move-next-nowhere : c ≡ Nowhere → {r : Moved} → Went f g s cut.all [] c r → Moves rule.next f g s c r
     move-next-nowhere z {r} w =
-        let q = ap (λ (o : Cursor). target rule.next s (startKey f g o) (all f g)) z ∙ next-nowhere s (all f g) [] in
+        let q = ap (λ (o : Cursor). target rule.next s (startKey f g o) (allEntries f g)) z ∙ next-nowhere s (allEntries f g) [] in
         let a : (l : List ℕ) → admits cut.all [] l ≡ true → Ahead rule.next (startKey f g c) l = λ l _. rw z tt in
         move-went rule.next f g s c e h r cut.all [] q a (λ m. rw z m) w
 
     pub move-next : {p : Place} → c ≡ On p → {r : Moved} → WentFrom f g s cut.above p (On p) r → Moves rule.next f g s c r
     move-next {p} z {r} w =
         let k = entryAt f g p .key in
-        move-from rule.next f g s c e h r cut.above z (next-behind s (all f g) k) (λ l a. less-true (compareKeys k l) a) (λ m. m) w
+        move-from rule.next f g s c e h r cut.above z (next-behind s (allEntries f g) k) (λ l a. less-true (compareKeys k l) a) (λ m. m) w
 
     pub move-prev : {p : Place} → c ≡ On p → {r : Moved} → WentFrom f g s cut.below p (On p) r → Moves rule.previous f g s c r
     move-prev {p} z {r} w =
         let k = entryAt f g p .key in
-        move-from rule.previous f g s c e h r cut.below z (previous-behind s (all f g) k) (λ l a. less-true (compareKeys l k) a) (λ m. m) w
+        move-from rule.previous f g s c e h r cut.below z (previous-behind s (allEntries f g) k) (λ l a. less-true (compareKeys l k) a) (λ m. m) w
 
     -- from nowhere there is no previous
     pub move-prev-nowhere : c ≡ Nowhere → Moves rule.previous f g s c (To Nowhere)

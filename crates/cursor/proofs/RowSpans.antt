@@ -15,7 +15,7 @@ use Rattle.image.specs.Sound.{headerHolds}
 use Rattle.image.specs.Refusals.{Answer, refused, given, refusalOf, numberOf, badImage}
 use Rattle.image.specs.EntryMoves.{Span, on, viewed, emptySpan, keySpan, valueSpan, partsOn, keyView, valueView}
 use Rattle.table.specs.EntryViews.{spanAs, SpanLies, Spans}
-use Rattle.table.proofs.Views.{same-refusal, span-lent}
+use Rattle.table.proofs.EntryViewsLaws.{same-refusal, span-lent}
 use Rattle.cursor.proofs.Rows.{shows-key, shows-value}
 use Rattle.cursor.specs.Places.{imageOf}
 use Rattle.cursor.specs.Rows.{shownOn, ShowsKey, ShowsValue, refusalOn, Refuses}

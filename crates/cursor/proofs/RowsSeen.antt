@@ -18,7 +18,7 @@ use Rattle.cursor.specs.Runs.{Tables, entriesOf, Shows, Seen, Moment, se
 use Rattle.cursor.specs.declared.places.Cursor.{Cursor}
 use Rattle.cursor.specs.declared.places.Cursor.the-variants.{Nowhere, On}
 use Rattle.cursor.proofs.Growth.{entry-stays}
-use Rattle.cursor.proofs.Unique.{gives-row}
+use Rattle.cursor.proofs.OneAnswer.{gives-row}
 use Rattle.cursor.proofs.Lockstep.{Whole, shows-row, asked-whole, whole-grown, run-whole}
 
 -- ---- one move

@@ -15,8 +15,8 @@ use Rattle.image.specs.Nodes.{count}
 use Rattle.image.specs.Sound.{held}
 use Rattle.image.specs.Refusals.{damaged, Answer, refused, given}
 use Rattle.table.proofs.Laws.{node-held, held-length}
-use Rattle.cursor.proofs.Unique.{no-refusal}
-use Rattle.cursor.specs.Places.{all, entryAt, PlaceIn}
+use Rattle.cursor.proofs.OneAnswer.{no-refusal}
+use Rattle.cursor.specs.Places.{allEntries, entryAt, PlaceIn}
 use Rattle.cursor.specs.Moves.{asked, keyGiven, MovedIs, Lands, Moves}
 use Rattle.cursor.specs.Scans.{GoesOn, Scan, went}
 use Rattle.cursor.specs.declared.places.Side.{Side}
@@ -40,10 +40,10 @@ above-trans : (e f g : Entry) → above e f ≡ true → above f g ≡ true → 
 above-trans e f g p q = ap isLess (keys .trans (e .key) (f .key) (g .key) (less-true (compareKeys (e .key) (f .key)) p) (less-true (compareKeys (f .key) (g .key)) q))
 
 -- the entry at a place is one of all
-place-held : (f g : List ℕ) (p : Place) → PlaceIn f g p → List·Memᴰ (entryAt f g p) (all f g)
+place-held : (f g : List ℕ) (p : Place) → PlaceIn f g p → List·Memᴰ (entryAt f g p) (allEntries f g)
 place-held f g p n = go (p .table) (p .node) n
   where
-    go : (side : Side) (i : ℕ) → PlaceIn f g (record { table = side; node = i }) → List·Memᴰ (entryAt f g (record { table = side; node = i })) (all f g)
+    go : (side : Side) (i : ℕ) → PlaceIn f g (record { table = side; node = i }) → List·Memᴰ (entryAt f g (record { table = side; node = i })) (allEntries f g)
     go First i n = Memᴰ·append-left (held g) (node-held f i n)
     go Second i n = Memᴰ·append-right (held f) (node-held g i n)
 
@@ -58,22 +58,22 @@ landed v f g s c p m = go (asked f g s c (keyGiven v)) refl
 -- one argument for both ways: a move from a place ends ahead of it
 module _ (v : Move) (f g : List ℕ) (s : ℕ) (ahead : Entry → Entry → Bool) (never : (e : Entry) → ahead e e ≡ false) (trans : (e f g : Entry) → ahead e f ≡ true → ahead f g ≡ true → ahead e g ≡ true)
     (goes : (q p : Place) → Lands v f g s (On q) p → ahead (entryAt f g q) (entryAt f g p) ≡ true) where
-  member : (c : Cursor) (p : Place) → Moves v f g s c (To (On p)) → List·Memᴰ (entryAt f g p) (all f g)
+  member : (c : Cursor) (p : Place) → Moves v f g s c (To (On p)) → List·Memᴰ (entryAt f g p) (allEntries f g)
   member c p m = place-held f g p ((landed v f g s c p m) .inside)
 
-  from-place : (q : Place) (k : ℕ) → Scan v f g s (On q) k → k ≤ left ahead never trans (entryAt f g q) (all f g)
+  from-place : (q : Place) (k : ℕ) → Scan v f g s (On q) k → k ≤ left ahead never trans (entryAt f g q) (allEntries f g)
   from-place q zero n = omega arith
   from-place q (suc k) (went p m n) =
       let a = from-place p k n in
-      let b = left-less ahead never trans (entryAt f g q) (entryAt f g p) (goes q p (landed v f g s (On q) p m)) (all f g) (member (On q) p m) in
+      let b = left-less ahead never trans (entryAt f g q) (entryAt f g p) (goes q p (landed v f g s (On q) p m)) (allEntries f g) (member (On q) p m) in
       omega arith
 
-  from-anywhere : (c : Cursor) (k : ℕ) → Scan v f g s c k → k ≤ length (all f g)
-  from-anywhere (On q) k n = let a = from-place q k n in let b = left-most ahead never trans (entryAt f g q) (all f g) in omega arith
+  from-anywhere : (c : Cursor) (k : ℕ) → Scan v f g s c k → k ≤ length (allEntries f g)
+  from-anywhere (On q) k n = let a = from-place q k n in let b = left-most ahead never trans (entryAt f g q) (allEntries f g) in omega arith
   from-anywhere Nowhere zero n = omega arith
-  from-anywhere Nowhere (suc k) (went p m n) = let a = from-place p k n in let b = left-member ahead never trans (entryAt f g p) (all f g) (member Nowhere p m) in omega arith
+  from-anywhere Nowhere (suc k) (went p m n) = let a = from-place p k n in let b = left-member ahead never trans (entryAt f g p) (allEntries f g) (member Nowhere p m) in omega arith
 
-ends-within : (v : Move) (f g : List ℕ) (s : ℕ) → GoesOn v → (c : Cursor) (k : ℕ) → Scan v f g s c k → k ≤ length (all f g)
+ends-within : (v : Move) (f g : List ℕ) (s : ℕ) → GoesOn v → (c : Cursor) (k : ℕ) → Scan v f g s c k → k ≤ length (allEntries f g)
 ends-within first f g s x c k n = absurd x
 ends-within (seek t) f g s x c k n = absurd x
 ends-within next f g s x c k n = from-anywhere next f g s above never-above above-trans (λ q p l. ap isLess (l .ahead)) c k n

@@ -22,8 +22,8 @@ use Rattle.image.proofs.Nearest.{way, onward, past-way, past-admits}
 use Rattle.image.proofs.Landing.{key-read}
 use Rattle.table.specs.Questions.{nodesOf}
 use Rattle.table.proofs.Laws.{node-held, held-length, past-past}
-use Rattle.cursor.specs.Places.{imageOf, all, entryAt, keyAt, PlaceReads}
-use Rattle.cursor.specs.Merging.{HasNode, NearestIs, NewestDamaged, NewestIs}
+use Rattle.cursor.specs.Places.{imageOf, allEntries, entryAt, keyAt, PlaceReads}
+use Rattle.cursor.specs.Merging.{HasNode, NearestOfAll, NewestDamaged, NewestOfAll}
 use Rattle.cursor.specs.Walks.{StepRule, Stepped, cutFrom, keyFrom, tickOf, spentOf, bestOf, Ends, Walked, Passes, start, more}
 use Rattle.cursor.specs.declared.places.Place.{Place}
 use Rattle.cursor.specs.declared.merging_iter.Meeting.{Meeting}
@@ -45,24 +45,24 @@ key-read-at f g p r = key-read (imageOf (p .table) f g) (p .node) (r .readable)
 -- ---- one turn
 
 module _ (f g : List ℕ) (s : ℕ) (c : Cut) (t : List ℕ) where
-  pub step-damaged : NearestIs f g c t nearest.Damaged → Stepped f g s c t step.Damaged
+  pub step-damaged : NearestOfAll f g c t nearest.Damaged → Stepped f g s c t step.Damaged
   step-damaged n = record { rule = n .rule; lands = inl (n .lands) }
 
-  pub step-end : NearestIs f g c t nearest.Nothing → Stepped f g s c t step.End
+  pub step-end : NearestOfAll f g c t nearest.Nothing → Stepped f g s c t step.End
   step-end n = record { rule = n .rule; lands = tt }
 
-  module _ {m : Meeting} (n : NearestIs f g c t (nearest.At m)) {k : List ℕ} (e : k ≡ keyAt f g (m .place)) where
-    pub step-hurt : NewestIs f g k s newer.Damaged → Stepped f g s c t step.Damaged
+  module _ {m : Meeting} (n : NearestOfAll f g c t (nearest.At m)) {k : List ℕ} (e : k ≡ keyAt f g (m .place)) where
+    pub step-hurt : NewestOfAll f g k s newer.Damaged → Stepped f g s c t step.Damaged
     step-hurt r = record { rule = r .over .rule; lands = inr (m, n .lands, subst (λ (l : List ℕ). NewestDamaged f g l s) (e ∙ key-read-at f g (m .place) (n .lands .reads)) (r .over .lands)) }
 
     -- the key has no row
-    passes : (Sound f → Sound g → isSome (row k s (all f g)) ≡ false) → Stepped f g s c t (step.Pass m)
+    passes : (Sound f → Sound g → isSome (row k s (allEntries f g)) ≡ false) → Stepped f g s c t (step.Pass m)
     passes h = record { rule = λ x y. (n .rule x y, rw (← e) (h x y)); lands = n .lands }
 
-    pub step-absent : NewestIs f g k s newer.Nothing → Stepped f g s c t (step.Pass m)
+    pub step-absent : NewestOfAll f g k s newer.Nothing → Stepped f g s c t (step.Pass m)
     step-absent r = passes (λ x y. ap (λ (a : Maybe Entry). isSome (shown a)) (r .over .rule x y))
 
-    module _ {v : Version} (r : NewestIs f g k s (newer.At v)) where
+    module _ {v : Version} (r : NewestOfAll f g k s (newer.At v)) where
       pub step-done : v .value ≡ true → Stepped f g s c t (step.Done (v .place))
       step-done h = record {
         rule = λ x y. let o = r .over .rule x y in
@@ -208,7 +208,7 @@ module _ (f g : List ℕ) (s : ℕ) (c : Cut) (t : List ℕ) where
     kept-end r = record {
       rule = λ x y.
           let d = cutFrom c at in
-          let e = best-end (cmpOf d) (way d) s (all f g) (admits d (keyFrom f g t at)) (r .rule x y) in
+          let e = best-end (cmpOf d) (way d) s (allEntries f g) (admits d (keyFrom f g t at)) (r .rule x y) in
           ends (bestOf f g s c t) none (k .same x y ∙ e) found.Nothing tt;
       lands = tt;
     }
@@ -220,7 +220,7 @@ module _ (f g : List ℕ) (s : ℕ) (c : Cut) (t : List ℕ) where
     }
       where
         go : (d : Cut) (u : List ℕ) → StepRule f g s d u (step.Done p) → bestOf f g s c t ≡ bestOf f g s d u → Ends f g s (bestOf f g s c t) (found.At p)
-        go d u (l, h, v) e = ends (bestOf f g s c t) (some l) (e ∙ best-done (cmpOf d) (way d) s (all f g) (admits d u) l h (rw (v .newest-is, v .value-is))) (found.At p) v
+        go d u (l, h, v) e = ends (bestOf f g s c t) (some l) (e ∙ best-done (cmpOf d) (way d) s (allEntries f g) (admits d u) l h (rw (v .newest-is, v .value-is))) (found.At p) v
 
     module _ {m : Meeting} (r : Stepped f g s (cutFrom c at) (keyFrom f g t at) (step.Pass m)) where
       -- what may still be met is not used up by a key that is met
@@ -239,7 +239,7 @@ module _ (f g : List ℕ) (s : ℕ) (c : Cut) (t : List ℕ) where
       pub kept-on : {rest : Left} → spentOf left m ≡ Rest rest → Going f g s c t (Past (m .place)) left rest
       kept-on {rest} h = let (p, q) = rest-means left m rest h in record {
         kept = record {
-          same = λ x y. k .same x y ∙ best-on c (cutFrom c at) (keyFrom f g t at) (keyAt f g (m .place)) (past-from c at) s (all f g) (r .rule x y .0) (r .rule x y .1);
+          same = λ x y. k .same x y ∙ best-on c (cutFrom c at) (keyFrom f g t at) (keyAt f g (m .place)) (past-from c at) s (allEntries f g) (r .rule x y .0) (r .rule x y .1);
           first = λ z. omega (arith, p, k .first z, less-of f g s c t at m r f (m .first) (r .lands .in-first));
           second = λ z. omega (arith, q, k .second z, less-of f g s c t at m r g (m .second) (r .lands .in-second));
           behind = λ l z. k .behind l (behind-key c (cutFrom c at) (keyFrom f g t at) (keyAt f g (m .place)) (past-from c at) (admitted f g s c t at m r) l z);

@@ -21,7 +21,7 @@ use Rattle.table.specs.declared.questions.Hit.{Hit}
 use Rattle.table.specs.declared.questions.Hit.the-variants as hit
 use Rattle.table.specs.declared.questions.NewestAt.{NewestAt}
 use Rattle.table.specs.declared.questions.NewestAt.the-variants as newestAt
-use Rattle.cursor.specs.Places.{all, earlier, place, entryAt, keyAt, PlaceReads}
+use Rattle.cursor.specs.Places.{allEntries, heldBefore, place, entryAt, keyAt, PlaceReads}
 use Rattle.cursor.specs.declared.places.Side.{Side}
 use Rattle.cursor.specs.declared.places.Side.the-variants.{First, Second}
 use Rattle.cursor.specs.declared.places.Place.{Place}
@@ -47,7 +47,8 @@ metIn side hit.Damaged = nearest.Damaged
 
 -- of two keys the one that comes before the other; equal ones are met in both tables, at the first's place
 abbrev pub nearerOf : (Place → List ℕ) → Cut → Meeting → Meeting → Meeting
-nearerOf key c x y = cond (isLess (cmpOf c (key (y .place)) (key (x .place)))) y (cond (isLess (cmpOf c (key (x .place)) (key (y .place)))) x (record { place = x .place; first = true; second = true }))
+nearerOf key c x y =
+    cond (isLess (cmpOf c (key (y .place)) (key (x .place)))) y (cond (isLess (cmpOf c (key (x .place)) (key (y .place)))) x (record { place = x .place; first = true; second = true }))
 
 -- the sooner of two answers
 abbrev pub soonerOf : (Place → List ℕ) → Cut → Nearest → Nearest → Nearest
@@ -94,8 +95,8 @@ pub record NearestOver (es : List Entry) (f g : List ℕ) (c : Cut) (t : List �
   pub lands : NearestIn f g c t r
 
 -- and about all of them
-abbrev pub NearestIs : List ℕ → List ℕ → Cut → List ℕ → Nearest → Type 0
-NearestIs f g = NearestOver (all f g) f g
+abbrev pub NearestOfAll : List ℕ → List ℕ → Cut → List ℕ → Nearest → Type 0
+NearestOfAll f g = NearestOver (allEntries f g) f g
 
 -- ---- the newest entry of a key
 
@@ -144,7 +145,7 @@ NewestIn f g k s newer.Damaged = NewestDamaged f g k s
 
 -- no table before that of the place has an entry of k up to s that is as new
 abbrev pub FirstAsNew : List ℕ → List ℕ → ℕ → List ℕ → Place → Type 0
-FirstAsNew f g s k p = All (λ e. fits k s e ≡ true → e .number < entryAt f g p .number) (earlier (p .table) f)
+FirstAsNew f g s k p = All (λ e. fits k s e ≡ true → e .number < entryAt f g p .number) (heldBefore (p .table) f)
 
 -- the same of an answer
 abbrev pub NewestFirst : List ℕ → List ℕ → List ℕ → ℕ → Newest → Type 0
@@ -158,6 +159,6 @@ pub record NewestOver (es : List Entry) (f g : List ℕ) (k : List ℕ) (s : ℕ
   pub lands : NewestIn f g k s r
 
 -- and about all of them
-pub record NewestIs (f g : List ℕ) (k : List ℕ) (s : ℕ) (r : Newest) : Type 0 where
-  pub over : NewestOver (all f g) f g k s r
+pub record NewestOfAll (f g : List ℕ) (k : List ℕ) (s : ℕ) (r : Newest) : Type 0 where
+  pub over : NewestOver (allEntries f g) f g k s r
   pub first : Sound f → Sound g → NewestFirst f g k s r

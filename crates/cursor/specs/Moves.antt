@@ -20,7 +20,7 @@ use Rattle.image.specs.Refusals as is
 use Rattle.image.specs.Refusals.{Answer, refused, given, demand, badImage, noNode, badNumber, longKey, damaged, numberOf}
 use Rattle.table.specs.Refusals.{refusalIs}
 use Rattle.table.specs.declared.refusals.Refusal.the-variants as refusal
-use Rattle.cursor.specs.Places.{all, entryAt, refusalAt, PlaceIn, inside}
+use Rattle.cursor.specs.Places.{allEntries, entryAt, refusalAt, PlaceIn, inside}
 use Rattle.cursor.specs.Walks.{Gives, WalkDamaged, bestOf, LandsOn}
 use Rattle.cursor.specs.declared.places.Place.{Place}
 use Rattle.cursor.specs.declared.places.Cursor.{Cursor}
@@ -152,7 +152,7 @@ pub record WentFrom (f g : List ℕ) (s : ℕ) (c : Cut) (p : Place) (at : Curso
 -- what a move promises
 pub record Moves (v : Move) (f g : List ℕ) (s : ℕ) (c : Cursor) (r : Moved) : Type 0 where
   pub refused : (q : is.Refusal) → asked f g s c (keyGiven v) ≡ is.refused q → RefusedWith q c (movedAs r)
-  pub rule : asked f g s c (keyGiven v) ≡ given tt → Sound f → Sound g → LeadsTo f g s (target v s (startKey f g c) (all f g)) (movedAs r)
+  pub rule : asked f g s c (keyGiven v) ≡ given tt → Sound f → Sound g → LeadsTo f g s (target v s (startKey f g c) (allEntries f g)) (movedAs r)
   pub lands : asked f g s c (keyGiven v) ≡ given tt → LandsIn v f g s c (movedAs r)
 
 -- where the promise leaves one answer: the arguments are refused, on any bytes, or both tables are sound

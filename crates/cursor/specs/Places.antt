@@ -21,13 +21,13 @@ imageOf First f g = f
 imageOf Second f g = g
 
 -- the entries of the tables before it
-abbrev pub earlier : Side → List ℕ → List Entry
-earlier First f = []
-earlier Second f = held f
+abbrev pub heldBefore : Side → List ℕ → List Entry
+heldBefore First f = []
+heldBefore Second f = held f
 
 -- the entries of both, the first table's first
-abbrev pub all : List ℕ → List ℕ → List Entry
-all f g = held f ++ held g
+abbrev pub allEntries : List ℕ → List ℕ → List Entry
+allEntries f g = held f ++ held g
 
 -- a place of a table
 abbrev pub place : Side → ℕ → Place

@@ -14,7 +14,7 @@ use Rattle.table.specs.Refusals.{refusalIs}
 use Rattle.table.specs.Growth.{Begun, Additions}
 use Rattle.table.specs.declared.memtable.Lookup.{Lookup}
 use Rattle.table.specs.declared.memtable.Lookup.the-variants as lookup
-use Rattle.cursor.specs.Places.{all}
+use Rattle.cursor.specs.Places.{allEntries}
 use Rattle.cursor.specs.Moves.{keyGiven, movedAs, Moves}
 use Rattle.cursor.specs.Rows.{ShowsKey, ShowsValue}
 use Rattle.cursor.specs.declared.places.Cursor.{Cursor}
@@ -29,7 +29,7 @@ pub record Tables : Type 0 where
 
 -- the entries of both
 abbrev pub entriesOf : Tables → List Entry
-entriesOf t = all (t .first) (t .second)
+entriesOf t = allEntries (t .first) (t .second)
 
 -- the row shown at a cursor: none when nowhere, else a key and a value that the promises of the views allow
 abbrev pub Shows : Tables → Cursor → Maybe Row → Type 0

@@ -13,7 +13,7 @@ use Rattle.rule.specs.Moves.{best}
 use Rattle.rule.specs.Nearest.{Least}
 use Rattle.image.specs.Sound.{Sound}
 use Rattle.image.specs.Cuts.{Cut, cmpOf, admits, pastOf}
-use Rattle.cursor.specs.Places.{all, entryAt, keyAt, PlaceIn, PlaceReads}
+use Rattle.cursor.specs.Places.{allEntries, entryAt, keyAt, PlaceIn, PlaceReads}
 use Rattle.cursor.specs.Merging.{MeetingIn, NearDamaged, NewestDamaged, FirstAsNew}
 use Rattle.cursor.specs.declared.places.Place.{Place}
 use Rattle.cursor.specs.declared.merging_iter.Meeting.{Meeting}
@@ -31,7 +31,7 @@ use Rattle.cursor.specs.declared.walk.Found.the-variants as found
 -- table where the very same entry stands in both
 pub record Gives (f g : List ℕ) (s : ℕ) (k : List ℕ) (p : Place) : Type 0 where
   pub inside : PlaceIn f g p
-  pub newest-is : newest k s (all f g) ≡ some (entryAt f g p)
+  pub newest-is : newest k s (allEntries f g) ≡ some (entryAt f g p)
   pub value-is : entryAt f g p .kind ≡ valueKind
   pub first : FirstAsNew f g s k p
 
@@ -46,9 +46,9 @@ pub record LandsOn (f g : List ℕ) (s : ℕ) (c : Cut) (t : List ℕ) (p : Plac
 
 -- of the keys behind the cut, the first: it has a row, or none; or there is no such key
 abbrev pub StepRule : List ℕ → List ℕ → ℕ → Cut → List ℕ → Step → Type 0
-StepRule f g s c t (step.Done p) = (k : List ℕ) × Least (cmpOf c) (admits c t) (all f g) (some k) × Gives f g s k p
-StepRule f g s c t (step.Pass m) = Least (cmpOf c) (admits c t) (all f g) (some (keyAt f g (m .place))) × (isSome (row (keyAt f g (m .place)) s (all f g)) ≡ false)
-StepRule f g s c t step.End = Least (cmpOf c) (admits c t) (all f g) none
+StepRule f g s c t (step.Done p) = (k : List ℕ) × Least (cmpOf c) (admits c t) (allEntries f g) (some k) × Gives f g s k p
+StepRule f g s c t (step.Pass m) = Least (cmpOf c) (admits c t) (allEntries f g) (some (keyAt f g (m .place))) × (isSome (row (keyAt f g (m .place)) s (allEntries f g)) ≡ false)
+StepRule f g s c t step.End = Least (cmpOf c) (admits c t) (allEntries f g) none
 StepRule f g s c t step.Damaged = ⊥
 
 -- damage is met in a turn: in the question to one of the tables for the next key, or for the newest entry of the key that is next
@@ -86,7 +86,8 @@ tickOf false = 0
 
 -- what is left of both counts, or that one is used up
 abbrev pub spentOf : Left → Meeting → Spent
-spentOf l m = cond (ltb (l .first) (tickOf (m .first))) Over (cond (ltb (l .second) (tickOf (m .second))) Over (Rest (record { first = l .first - tickOf (m .first); second = l .second - tickOf (m .second) })))
+spentOf l m =
+    cond (ltb (l .first) (tickOf (m .first))) Over (cond (ltb (l .second) (tickOf (m .second))) Over (Rest (record { first = l .first - tickOf (m .first); second = l .second - tickOf (m .second) })))
 
 -- ---- the keys that it passes
 
@@ -101,7 +102,7 @@ pub data Passes (f g : List ℕ) (s : ℕ) (c : Cut) (t : List ℕ) : Reached �
 
 -- of the keys behind the cut that have a row, the one that comes first
 abbrev pub bestOf : List ℕ → List ℕ → ℕ → Cut → List ℕ → Maybe (List ℕ)
-bestOf f g s c t = best (λ a b. isLess (cmpOf c a b)) (admits c t) s (all f g)
+bestOf f g s c t = best (λ a b. isLess (cmpOf c a b)) (admits c t) s (allEntries f g)
 
 -- the place that gives the row of the key, or that there is none
 abbrev pub Ends : List ℕ → List ℕ → ℕ → Maybe (List ℕ) → Found → Type 0
@@ -117,12 +118,12 @@ abbrev pub WalkDamaged : List ℕ → List ℕ → ℕ → Cut → List ℕ → 
 WalkDamaged f g s c t = (at : Reached) × (i : ℕ) × (j : ℕ) × Passes f g s c t at i j × TurnDamaged f g s (cutFrom c at) (keyFrom f g t at)
 
 -- where it ends on any bytes; damage was met in some turn, so the count is never what ends a walk
-abbrev pub FoundIn : List ℕ → List ℕ → ℕ → Cut → List ℕ → Found → Type 0
-FoundIn f g s c t (found.At p) = LandsOn f g s c t p
-FoundIn f g s c t found.Nothing = Unit
-FoundIn f g s c t found.Damaged = WalkDamaged f g s c t
+abbrev pub FoundLands : List ℕ → List ℕ → ℕ → Cut → List ℕ → Found → Type 0
+FoundLands f g s c t (found.At p) = LandsOn f g s c t p
+FoundLands f g s c t found.Nothing = Unit
+FoundLands f g s c t found.Damaged = WalkDamaged f g s c t
 
 -- what a walk promises
 pub record Walked (f g : List ℕ) (s : ℕ) (c : Cut) (t : List ℕ) (r : Found) : Type 0 where
   pub rule : Sound f → Sound g → Ends f g s (bestOf f g s c t) r
-  pub lands : FoundIn f g s c t r
+  pub lands : FoundLands f g s c t r

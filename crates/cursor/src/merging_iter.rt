@@ -5,7 +5,7 @@ ghost use Rattle.table.specs.Questions.{cutOf};
 ghost use Rattle.cursor.specs.Places.{keyAt, numberAt};
 ghost use Rattle.table.specs.Memtable.{lookupAs};
 ghost use Rattle.cursor.specs.Pairs.{answersOf, looksTaken, FewLooks, toldBy, pairAs, GetsPair};
-ghost use Rattle.cursor.specs.Merging.{metAt, metIn, nearerOf, soonerOf, NearestIs, versionIn, newerOf, NewestIs};
+ghost use Rattle.cursor.specs.Merging.{metAt, metIn, nearerOf, soonerOf, NearestOfAll, versionIn, newerOf, NewestOfAll};
 use crate::places::Place;
 use crate::places::Side;
 use crate::places::headers_hold;
@@ -107,7 +107,7 @@ fn sooner<'a>(first: &'a [u8], second: &'a [u8], cut: Cut, a: Nearest, b: Neares
 
 // The key that comes next behind a cut, over both tables.
 pub(crate) fn nearest_key<'a>(first: &'a [u8], second: &'a [u8], cut: Cut, key: &[u8]) -> Nearest
-    ensures { λ r. ⌜ NearestIs (now (first .entry)) (now (second .entry)) (cutOf cut) (now (key .entry)) r ⌝ }
+    ensures { λ r. ⌜ NearestOfAll (now (first .entry)) (now (second .entry)) (cutOf cut) (now (key .entry)) r ⌝ }
 {
     let a = met_in(Side::First, near(first, cut, key));
     let b = met_in(Side::Second, near(second, cut, key));
@@ -172,7 +172,7 @@ pub(crate) fn newest_entry<'a>(
     key: &[u8],
     snapshot: u64,
 ) -> Newest
-    ensures { λ r. ⌜ NewestIs (now (first .entry)) (now (second .entry)) (now (key .entry)) snapshot r ⌝ }
+    ensures { λ r. ⌜ NewestOfAll (now (first .entry)) (now (second .entry)) (now (key .entry)) snapshot r ⌝ }
 {
     let a = version_in(Side::First, newest(first, key, snapshot));
     let b = version_in(Side::Second, newest(second, key, snapshot));

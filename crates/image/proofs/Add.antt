@@ -83,7 +83,14 @@ add-accepted xs e h g a =
     let (c7, c8) = both-true (leb 1 h) (leb h levels) c6 in
     let (r, f, a7) = reading-given (searched xs toStop (e .key) (e .number)) (placed xs e h) g a6 in
     go (header-sound xs c1) (record {
-      legal = record { key-short = leb-true (length (e .key)) maxKey c4; value-short = leb-true (length (e .value)) maxValue c5; number-low = leb-true (e .number) maxNumber c3; kind-known = leb-true (e .kind) 1 c2 };
+      legal =
+          record {
+            key-short = leb-true (length (e .key)) maxKey c4;
+            value-short = leb-true (length (e .value)) maxValue c5;
+            number-low = leb-true (e .number) maxNumber
+                c3;
+            kind-known = leb-true (e .kind) 1 c2;
+          };
       low = leb-true 1 h c7;
       high = leb-true h levels c8;
     }) r f a7
@@ -130,7 +137,9 @@ module _ (xs : List ℕ) (s : Sound xs) (e : Entry) (h : ℕ) where
       n = e .number
 
       equal-node : (x : ℕ) → stopTest xs toStop k n x ≡ true → Duplicates (entryOf xs x) e
-      equal-node x f = let z = entries .eq ((entryOf xs x) .key, (entryOf xs x) .number) (k, n) (equal-true (probe (entryOf xs) k n x) (sym (stop-stop xs k n x) ∙ f)) in (ap (λ (t : List ℕ × ℕ). t .0) z, ap (λ (t : List ℕ × ℕ). t .1) z)
+      equal-node x f =
+          let z = entries .eq ((entryOf xs x) .key, (entryOf xs x) .number) (k, n) (equal-true (probe (entryOf xs) k n x) (sym (stop-stop xs k n x) ∙ f)) in
+          (ap (λ (t : List ℕ × ℕ). t .0) z, ap (λ (t : List ℕ × ℕ). t .1) z)
 
       node-equal : (x : ℕ) → Duplicates (entryOf xs x) e → probe (entryOf xs) k n x ≡ equal
       node-equal x d = rw (d .0, d .1) (entries .same (k, n))
@@ -236,4 +245,6 @@ pub add-bytes : (xs : List ℕ) (e : Entry) (h : ℕ) (g : Grown) → Bytes (e .
 add-bytes xs e h g k v b a = go (add-accepted xs e h g a)
   where
     go : Accepted xs e h g → Bytes (g .image)
-    go c = let prev = c .recorded in rw (c .image-is) (written-bytes xs (count xs) (free xs) h e (λ l. linkOf xs (getD prev l 0) l) (λ l. linkPlace xs (getD prev l 0) l) (encode-bytes e (c .room .legal) k v) b)
+    go c =
+        let prev = c .recorded in
+        rw (c .image-is) (written-bytes xs (count xs) (free xs) h e (λ l. linkOf xs (getD prev l 0) l) (λ l. linkPlace xs (getD prev l 0) l) (encode-bytes e (c .room .legal) k v) b)

@@ -73,7 +73,8 @@ bytes-by-test (z ∷ zs) t zero = ltb-true z 256 ((both-true (ltb z 256) (allByt
 bytes-by-test (z ∷ zs) t (suc i) = bytes-by-test zs ((both-true (ltb z 256) (allBytes zs) t) .1) i
 
 pub table-sound : Sound imageT
-unfolding compareKeys compareEntries headerHolds add get presence entryMove partsOn find look word putWord putWords linkOf heightOf entryOf nodeWritten written lenAt keyedAt restAt encode leadAt allBytes
+unfolding compareKeys compareEntries headerHolds add get presence entryMove partsOn find look word putWord putWords linkOf heightOf entryOf nodeWritten written
+    lenAt keyedAt restAt encode leadAt allBytes
 table-sound = check-sound imageT (bytes-by-test imageT refl) refl
 
 -- with node 1 linked to itself at level 0 it is not: node 1 starts behind the header, and its links 8 bytes further
@@ -92,18 +93,22 @@ unfolding compareKeys compareEntries headerHolds add lowest find look word putWo
 table-lowest = refl
 
 -- lookups of a at 2, at 3 and at 0; of an entry that is held; a duplicate whatever its type
-pub table-lookups : (get imageT a 2 ≡ given (record { says = found 2; looks = 13 })) × (get imageT a 3 ≡ given (record { says = deleted; looks = 12 })) × (get imageT a 0 ≡ given (record { says = absent; looks = 13 }))
+pub table-lookups : (get imageT a 2 ≡ given (record { says = found 2; looks = 13 })) × (get imageT a 3 ≡ given (record { says = deleted; looks = 12 })) ×
+    (get imageT a 0 ≡ given (record { says = absent; looks = 13 }))
     × (presence imageT a 3 0 ≡ given (record { held = true; looks = 12 })) × (presence imageT a 3 1 ≡ given (record { held = false; looks = 12 })) × (add imageT (put a 3 x) 1 ≡ refused duplicate)
 unfolding compareKeys compareEntries headerHolds add get presence entryMove partsOn find look word putWord putWords linkOf heightOf entryOf nodeWritten written lenAt keyedAt restAt encode leadAt
 table-lookups = (refl, refl, refl, refl, refl, refl)
 
 -- the entry cursor: a@3-, a@1=x, b@2=y, c@4=v, c@0=w, and back
-pub table-moves : (entryMove imageT first nowhere ≡ given (on 4)) × (entryMove imageT next (on 4) ≡ given (on 2)) × (entryMove imageT next (on 2) ≡ given (on 3)) × (entryMove imageT next (on 3) ≡ given (on 1)) × (entryMove imageT next (on 1) ≡ given (on 5))
-    × (entryMove imageT next (on 5) ≡ given nowhere) × (entryMove imageT previous (on 1) ≡ given (on 3)) × (entryMove imageT previous (on 4) ≡ given nowhere) × (entryMove imageT (seek b 9) nowhere ≡ given (on 3)) × (entryMove imageT next (on 6) ≡ refused noNode)
+pub table-moves : (entryMove imageT first nowhere ≡ given (on 4)) × (entryMove imageT next (on 4) ≡ given (on 2)) ×
+    (entryMove imageT next (on 2) ≡ given (on 3)) × (entryMove imageT next (on 3) ≡ given (on 1)) × (entryMove imageT next (on 1) ≡ given (on 5))
+    × (entryMove imageT next (on 5) ≡ given nowhere) × (entryMove imageT previous (on 1) ≡ given (on 3)) × (entryMove imageT previous (on 4) ≡ given nowhere) ×
+    (entryMove imageT (seek b 9) nowhere ≡ given (on 3)) × (entryMove imageT next (on 6) ≡ refused noNode)
 unfolding compareKeys compareEntries headerHolds add get presence entryMove partsOn find look word putWord putWords linkOf heightOf entryOf nodeWritten written lenAt keyedAt restAt encode leadAt
 table-moves = (refl, refl, refl, refl, refl, refl, refl, refl, refl, refl)
 
-pub table-views : (viewed imageT (keyView imageT (on 3)) ≡ b) × (viewed imageT (valueView imageT (on 3)) ≡ y) × (viewed imageT (valueView imageT (on 4)) ≡ []) × (viewed imageT (keyView imageT (on 0)) ≡ [])
+pub table-views : (viewed imageT (keyView imageT (on 3)) ≡ b) × (viewed imageT (valueView imageT (on 3)) ≡ y) × (viewed imageT (valueView imageT (on 4)) ≡ []) ×
+    (viewed imageT (keyView imageT (on 0)) ≡ [])
 unfolding compareKeys compareEntries headerHolds add get presence entryMove partsOn find look word putWord putWords linkOf heightOf entryOf nodeWritten written lenAt keyedAt restAt encode leadAt
 table-views = (refl, refl, refl, refl)
 
@@ -114,7 +119,8 @@ abc = added (added (added (freshImage (replicate 200 0)) (put a 1 x) 1) (put b 1
 
 -- whole, the entry cursor goes through; with c's type 2, or the length of its value 2, it is refused before c, by next and by seek; with the link of node 1 to
 -- itself, or that of node 2 back to node 1, next is refused; and so is previous, back onto a type of 2
-pub no-round : (entryMove abc next (on 2) ≡ given (on 3)) × (entryMove (set abc 126 2) next (on 2) ≡ refused damaged) × (entryMove (set abc 134 2) next (on 2) ≡ refused damaged) × (entryMove (set abc 126 2) (seek c 9) nowhere ≡ refused damaged)
+pub no-round : (entryMove abc next (on 2) ≡ given (on 3)) × (entryMove (set abc 126 2) next (on 2) ≡ refused damaged) ×
+    (entryMove (set abc 134 2) next (on 2) ≡ refused damaged) × (entryMove (set abc 126 2) (seek c 9) nowhere ≡ refused damaged)
     × (entryMove (putWord abc 72 1) next (on 1) ≡ refused damaged) × (entryMove (putWord abc 96 1) next (on 2) ≡ refused damaged) × (entryMove (set abc 102 2) previous (on 3) ≡ refused damaged)
 unfolding compareKeys compareEntries headerHolds add get presence entryMove partsOn find look word putWord putWords linkOf heightOf entryOf nodeWritten written lenAt keyedAt restAt encode leadAt
 no-round = (refl, refl, refl, refl, refl, refl, refl)

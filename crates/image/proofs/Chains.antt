@@ -56,7 +56,8 @@ module _ (height : ℕ → ℕ) where
   tall-append l [] ys = refl
   tall-append l (x ∷ xs) ys = go (ltb l (height x)) (tall-append l xs ys)
     where
-      go : (b : Bool) → tall height l (xs ++ ys) ≡ tall height l xs ++ tall height l ys → cond b (x ∷ tall height l (xs ++ ys)) (tall height l (xs ++ ys)) ≡ cond b (x ∷ tall height l xs) (tall height l xs) ++ tall height l ys
+      go : (b : Bool) → tall height l (xs ++ ys) ≡ tall height l xs ++ tall height l ys
+          → cond b (x ∷ tall height l (xs ++ ys)) (tall height l (xs ++ ys)) ≡ cond b (x ∷ tall height l xs) (tall height l xs) ++ tall height l ys
       go true e = ap (λ (r : List ℕ). x ∷ r) e
       go false e = e
 
@@ -70,7 +71,8 @@ module _ (height : ℕ → ℕ) where
   tall-mem l [] = all-nil _
   tall-mem l (y ∷ ys) = go (ltb l (height y)) refl (λ x m. let t = tall-mem l ys x m in (List·Memᴰ·tail (t .0), t .1))
     where
-      go : (b : Bool) → ltb l (height y) ≡ b → All (λ x. List·Memᴰ x (y ∷ ys) × (l < height x)) (tall height l ys) → All (λ x. List·Memᴰ x (y ∷ ys) × (l < height x)) (cond b (y ∷ tall height l ys) (tall height l ys))
+      go : (b : Bool) → ltb l (height y) ≡ b → All (λ x. List·Memᴰ x (y ∷ ys) × (l < height x)) (tall height l ys)
+          → All (λ x. List·Memᴰ x (y ∷ ys) × (l < height x)) (cond b (y ∷ tall height l ys) (tall height l ys))
       go true e h = all-cons (here, ltb-true l (height y) e) h
       go false e h = h
 
@@ -108,7 +110,9 @@ module _ (top : ℕ) (height : ℕ → ℕ) (link : ℕ → ℕ → ℕ) where
   pub chained-linked : (xs : List ℕ) → Chained top height link xs → Linked xs
   chained-linked xs c = record {
     start = λ l h. chain-first (λ i. link i l) (link 0 l) (tall height l xs) (c l h);
-    step = λ l h a x b e k. chain-first (λ i. link i l) (link x l) (tall height l b) (chain-after (λ i. link i l) (link 0 l) (tall height l a) x (tall height l b) (rw (e, tall-append height l a (x ∷ b), tall-keep height l x b k) at (c l h)));
+    step =
+        λ l h a x b e k. chain-first (λ i. link i l) (link x l) (tall height l b)
+        (chain-after (λ i. link i l) (link 0 l) (tall height l a) x (tall height l b) (rw (e, tall-append height l a (x ∷ b), tall-keep height l x b k) at (c l h)));
   }
 
   suffix-chain : (xs : List ℕ) → Linked xs → (l : ℕ) → l < top → (a b : List ℕ) → xs ≡ a ++ b → (v : ℕ) → v ≡ nextTall height l b → chain (λ i. link i l) v (tall height l b)

@@ -65,7 +65,8 @@ run-sound xs (suc k) i o b le n e = let (c, d) = both-true (eqb (slot xs i) o) (
         read j p q (yes z) = rw z (seen .0)
         read j p q (no z) = r .reads j (omega arith) q
 
-    go : (r : Read Node) → nodeAt xs i ≡ r → ifRead r (λ m. nodesRun xs k (suc i) (m .end)) ≡ true → slot xs i ≡ o → ((m : Node) → nodesRun xs k (suc i) (m .end) ≡ true → Run xs (suc i) (m .end)) → Run xs i o
+    go : (r : Read Node) → nodeAt xs i ≡ r → ifRead r (λ m. nodesRun xs k (suc i) (m .end)) ≡ true → slot xs i ≡ o
+        → ((m : Node) → nodesRun xs k (suc i) (m .end) ≡ true → Run xs (suc i) (m .end)) → Run xs i o
     go (got m) g d a ih = more m g a (ih m d)
     go (bad p) g d a ih = absurd (true≢false (sym d))
 
@@ -174,7 +175,8 @@ module _ (xs : List ℕ) (highs : (i : ℕ) → 1 ≤ i → i ≤ count xs → (
         threaded = thread-cons xs next x (t .rest) n ((highs x h1 h2) .1) (meet-sound next x (heightOf xs x) m) (t .threaded);
       }
 
-  pub threads-complete : (rest : List ℕ) (p : ℕ) (next : List ℕ) → length next ≡ levels → All (λ x. (1 ≤ x) × (x ≤ count xs)) rest → Pairwise (Precedes xs) rest → (p ≢ 0 → All (Precedes xs p) rest) → Threads xs next rest
+  pub threads-complete : (rest : List ℕ) (p : ℕ) (next : List ℕ) → length next ≡ levels → All (λ x. (1 ≤ x) × (x ≤ count xs)) rest → Pairwise (Precedes xs) rest
+      → (p ≢ 0 → All (Precedes xs p) rest) → Threads xs next rest
       → threads xs (length rest) p next ≡ true
   threads-complete [] p next n w a f t = meet-complete next 0 levels (λ l k. t l k)
   threads-complete (x ∷ rest) p next n w a f t =

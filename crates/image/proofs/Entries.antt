@@ -16,7 +16,7 @@ use Rattle.image.specs.Readers.{got}
 use Rattle.image.specs.Entries.{Legal, varint, tag, encode, Len, lenAt, Keyed, keyedAt, Parts, restAt, partsAt, entryIn}
 use Rattle.image.proofs.Words.{length-part, part-holds, holds-part, holds-left, holds-right, holds-join, holds-fixed, fixed-holds, fixed-below, append-bytes, bytes-bytes}
 use Rattle.image.proofs.Readers.{got-same, bind-got, check-got}
-use Rattle.image.proofs.Lengths.{len-read, LenHere, len-sound}
+use Rattle.image.proofs.Lengths.{len-read, LenHere, len-sound, len-behind}
 
 -- where the parts of an entry at o stand
 abbrev pub keyPlace : ℕ → Entry → ℕ
@@ -224,7 +224,8 @@ parts-sound xs o end k p b le g f = go (keyed-steps xs o end k g) (rest-steps xs
     go a c = let rest : a .len .after + a .len .is ≡ k .rest = ap (λ (m : Keyed). m .rest) (a .is) in
         let kind : fixed 8 xs (a .len .after + (a .len .is - 8)) % 256 < 2 = rw (ap (λ (m : Keyed). m .tagIs) (a .is)) (c .kind) in
         subst (λ (q : Parts). Fills xs o end (entryIn xs q)) (ap (λ (m : Keyed). partsFrom m (c .len)) (a .is) ∙ c .is)
-        (filled xs o end (a .len) (c .len) b le (len-sound xs end o (a .len) b (a .read)) (len-sound xs end (a .len .after + a .len .is) (c .len) b (rw rest (c .read))) (a .some) (a .most) (c .most) kind (c .fills))
+        (filled xs o end (a .len) (c .len) b le (len-sound xs end o (a .len) b (a .read)) (len-sound xs end (a .len .after + a .len .is) (c .len) b (rw rest (c .read)))
+        (a .some) (a .most) (c .most) kind (c .fills))
 
 -- on any list what is read lies before the end
 pub keyed-inside : (xs : List ℕ) (o end : ℕ) (k : Keyed) → keyedAt xs o end ≡ got k → (k .keyAt + k .keyLen + 8 ≤ end) × (k .rest ≡ k .keyAt + k .keyLen + 8)
@@ -240,21 +241,6 @@ rest-inside xs end k p g = go (rest-steps xs end k p g)
     go a = (sym (ap (λ (q : Parts). q .keyed) (a .is)), rw (← a .is) (a .fills))
 
 -- and behind the place where the entry begins
-len-behind : (xs : List ℕ) (end o : ℕ) (l : Len) → lenAt xs end o ≡ got l → o ≤ l .after
-unfolding lenAt
-len-behind xs end o l g = let (_, f) = check-got (ltb o end) o _ l g in go (ltb (getD xs o 0) 128) f
-  where
-    one : Len
-    one = record { is = getD xs o 0; after = o + 1 }
-
-    two : Len
-    two = record { is = (getD xs o 0 - 128) + 128 * getD xs (o + 1) 0; after = o + 2 }
-
-    go : (t : Bool) → cond t (got one) (check (both (ltb (o + 1) end) (both (leb 1 (getD xs (o + 1) 0)) (ltb (getD xs (o + 1) 0) 128))) o (got two)) ≡ got l → o ≤ l .after
-    go true e = let z : o + 1 ≡ l .after = ap (λ (q : Len). q .after) (got-same e) in omega arith
-    go false e = let (_, f) = check-got (both (ltb (o + 1) end) (both (leb 1 (getD xs (o + 1) 0)) (ltb (getD xs (o + 1) 0) 128))) o (got two) l e in
-        let z : o + 2 ≡ l .after = ap (λ (q : Len). q .after) (got-same f) in omega arith
-
 pub keyed-behind : (xs : List ℕ) (o end : ℕ) (k : Keyed) → keyedAt xs o end ≡ got k → o ≤ k .keyAt
 keyed-behind xs o end k g = go (keyed-steps xs o end k g)
   where
@@ -280,4 +266,7 @@ varint-bytes n l = go (ltb n 128) refl
 
 pub encode-bytes : (e : Entry) → Legal e → Bytes (e .key) → Bytes (e .value) → Bytes (encode e)
 unfolding encode
-encode-bytes e l k v = append-bytes (varint (length (e .key) + 8)) _ (varint-bytes (length (e .key) + 8) (omega (arith, l .key-short))) (append-bytes (e .key) _ k (append-bytes (bytes 8 (tag e)) (varint (length (e .value)) ++ (e .value)) (bytes-bytes 8 (tag e)) (append-bytes (varint (length (e .value))) (e .value) (varint-bytes (length (e .value)) (omega (arith, l .value-short))) v)))
+encode-bytes e l k v =
+    append-bytes (varint (length (e .key) + 8)) _ (varint-bytes (length (e .key) + 8) (omega (arith, l .key-short)))
+    (append-bytes (e .key) _ k (append-bytes (bytes 8 (tag e)) (varint (length (e .value)) ++ (e .value)) (bytes-bytes 8 (tag e))
+    (append-bytes (varint (length (e .value))) (e .value) (varint-bytes (length (e .value)) (omega (arith, l .value-short))) v)))

@@ -87,8 +87,10 @@ module _ (xs : List ℕ) (s : Sound xs) where
         go : (l : List ℕ) → lowest xs ≡ l ++ post → All (λ x. cut (entryOf xs x) ≡ true) l → (l ≡ []) ⊎ ((a : List ℕ) × (z : ℕ) × (l ≡ a ++ (z ∷ [])))
             → Foremost (λ e f. order f e) cut xs (cursorAt (last 0 l))
         go l e y (inl f) = rw f (none-there (λ e f. order f e) cut (rw (e, f) n))
-        go l e y (inr (a, z, f)) = rw (f, last-middle 0 a z []) (one-there (λ e f. order f e) cut a z post (rw (e, f) (append-assoc a (z ∷ []) post)) (y z (rw f (Memᴰ·append-right a here))) (order-same (entryOf xs z))
-            (λ x m t. order-flip (entryOf xs x) (entryOf xs z) ((pairwise-middle Ahead a z post (rw (e, f, append-assoc a (z ∷ []) post) at (s .ascending))) .0 x m)) (λ x m t. absurd (true≢false (sym t ∙ n x m))))
+        go l e y (inr (a, z, f)) =
+            rw (f, last-middle 0 a z []) (one-there (λ e f. order f e) cut a z post (rw (e, f) (append-assoc a (z ∷ []) post)) (y z (rw f (Memᴰ·append-right a here))) (order-same (entryOf xs z))
+            (λ x m t. order-flip (entryOf xs x) (entryOf xs z) ((pairwise-middle Ahead a z post (rw (e, f, append-assoc a (z ∷ []) post) at (s .ascending))) .0 x m))
+            (λ x m t. absurd (true≢false (sym t ∙ n x m))))
 
   -- ---- the moves
 
@@ -123,9 +125,13 @@ module _ (xs : List ℕ) (s : Sound xs) where
   first-is = let d = cursorAt (chains.first (lowest xs)) in rw follow-head (landing-sound d (foremost-stands order (λ e. true) d (start d refl)))
 
   -- behind an entry that comes before the one that it stands on
-  landing-after : (i : ℕ) (m : Node) → entryIn xs (m .parts) ≡ entryOf xs i → (o : ℕ) (d : Cursor) → Foremost order (λ e. isLess (order (entryOf xs i) e)) xs d → landingAfter xs (m .parts .keyed) o d ≡ got d
+  landing-after : (i : ℕ) (m : Node) → entryIn xs (m .parts) ≡ entryOf xs i → (o : ℕ) (d : Cursor) → Foremost order (λ e. isLess (order (entryOf xs i) e)) xs d
+      → landingAfter xs (m .parts .keyed) o d ≡ got d
   landing-after i m e o nowhere f = refl
-  landing-after i m e o (on j) f = let (t, g, d) = node-is xs s j (f .0) in let z : isLess (compareKeyed xs (m .parts .keyed) (t .parts .keyed)) ≡ true = less-by (entryIn xs (m .parts)) (entryIn xs (t .parts)) e d (f .1) in rw (g, z)
+  landing-after i m e o (on j) f =
+      let (t, g, d) = node-is xs s j (f .0) in
+      let z : isLess (compareKeyed xs (m .parts .keyed) (t .parts .keyed)) ≡ true = less-by (entryIn xs (m .parts)) (entryIn xs (t .parts)) e d (f .1) in
+      rw (g, z)
     where
       less-by : (a b : Entry) → a ≡ entryOf xs i → b ≡ entryOf xs j → isLess (order (entryOf xs i) (entryOf xs j)) ≡ true → isLess (order a b) ≡ true
       less-by a b p q h = rw (p, q) h
@@ -140,15 +146,21 @@ module _ (xs : List ℕ) (s : Sound xs) where
           node = node-is xs s i n
 
           follows : follow xs i ≡ got (cursorAt (chains.first b))
-          follows = follow-to i b (inr (m, positive xs s i m)) ((linked xs s) .step 0 (omega arith) a i b e (positive xs s i m) ∙ ap chains.first (tall-all (heightOf xs) 0 b (λ x k. positive xs s x (rw e (Memᴰ·append-right a (List·Memᴰ·tail k))))))
+          follows =
+              follow-to i b (inr (m, positive xs s i m))
+              ((linked xs s) .step 0 (omega arith) a i b e (positive xs s i m) ∙ ap chains.first
+              (tall-all (heightOf xs) 0 b (λ x k. positive xs s x (rw e (Memᴰ·append-right a (List·Memᴰ·tail k))))))
 
           foremost : Foremost order (λ e. isLess (order (entryOf xs i) e)) xs (cursorAt (chains.first b))
           foremost = foremost-first (λ e. isLess (order (entryOf xs i) e)) (a ++ (i ∷ [])) b (e ∙ sym (append-assoc a (i ∷ []) b))
-              (all-append a (i ∷ []) (λ x k. order-flip (entryOf xs x) (entryOf xs i) ((pairwise-middle Ahead a i b (rw e at (s .ascending))) .0 x k)) (all-cons (order-same (entryOf xs i)) (all-nil _)))
+              (all-append a (i ∷ []) (λ x k. order-flip (entryOf xs x) (entryOf xs i) ((pairwise-middle Ahead a i b (rw e at (s .ascending))) .0 x k))
+              (all-cons (order-same (entryOf xs i)) (all-nil _)))
               (λ x k. ap isLess ((pairwise-middle Ahead a i b (rw e at (s .ascending))) .1 x k))
 
   sought : (k : List ℕ) (n : ℕ) (q : Searched xs s toStop k n) → Foremost order (λ e. not (isLess (compareEntries (e .key) (e .number) k n))) xs (cursorAt (standing (q .found)))
-  sought k n q = rw (q .stands) (foremost-first (λ e. not (isLess (compareEntries (e .key) (e .number) k n))) (q .before) (q .behind) (q .split) (λ x m. ap not (sym (stop-pass xs k n x) ∙ q .passes x m)) (λ x m. ap not (sym (stop-pass xs k n x) ∙ q .refuses x m)))
+  sought k n q =
+      rw (q .stands) (foremost-first (λ e. not (isLess (compareEntries (e .key) (e .number) k n))) (q .before) (q .behind) (q .split)
+      (λ x m. ap not (sym (stop-pass xs k n x) ∙ q .passes x m)) (λ x m. ap not (sym (stop-pass xs k n x) ∙ q .refuses x m)))
 
   -- a search that goes down on equality passes what is before its probe, and never stops
   pub down-pass : (k : List ℕ) (n x : ℕ) → passTest xs toGoDown k n x ≡ isLess (probe (entryOf xs) k n x)
@@ -173,21 +185,32 @@ module _ (xs : List ℕ) (s : Sound xs) where
     where
       go : (r : Found) → q .found ≡ r → Foremost (λ e f. order f e) (λ e. isLess (compareEntries (e .key) (e .number) k n)) xs (cursorAt (passed r))
       go (hit x looks) f = absurd (true≢false (sym ((q .hits x looks f) .1) ∙ down-stop k n x))
-      go (ends p x looks prev) f = rw ((q .misses p x looks prev f) .last-passed) (foremost-last (λ e. isLess (compareEntries (e .key) (e .number) k n)) (q .before) (q .behind) (q .split) (λ x m. sym (down-pass k n x) ∙ q .passes x m) (λ x m. sym (down-pass k n x) ∙ q .refuses x m))
+      go (ends p x looks prev) f =
+          rw ((q .misses p x looks prev f) .last-passed)
+          (foremost-last (λ e. isLess (compareEntries (e .key) (e .number) k n)) (q .before) (q .behind) (q .split) (λ x m. sym (down-pass k n x) ∙ q .passes x m)
+          (λ x m. sym (down-pass k n x) ∙ q .refuses x m))
 
   back : (i : ℕ) → IsNode xs i → (d : Cursor) × (moved xs previous (on i) ≡ got d) × Foremost (λ e f. order f e) (λ e. isLess (order e (entryOf xs i))) xs d
-  back i n = let (m, g, e) = node-is xs s i n in let q = search-sound xs s toGoDown ((entryOf xs i) .key) ((entryOf xs i) .number) in let f = smaller-than ((entryOf xs i) .key) ((entryOf xs i) .number) q in (
-    cursorAt (passed (q .found)),
-    rw g (ap (λ (d : Entry). lastBefore xs (d .key) (d .number)) e ∙ goes q (foremost-stands (λ e f. order f e) (λ e. isLess (order e (entryOf xs i))) (cursorAt (passed (q .found))) f)),
-    f,
-  )
+  back i n =
+      let (m, g, e) = node-is xs s i n in
+      let q = search-sound xs s toGoDown ((entryOf xs i) .key) ((entryOf xs i) .number) in
+      let f = smaller-than ((entryOf xs i) .key) ((entryOf xs i) .number) q in (
+        cursorAt (passed (q .found)),
+        rw g (ap (λ (d : Entry). lastBefore xs (d .key) (d .number)) e ∙ goes q (foremost-stands (λ e f. order f e) (λ e. isLess (order e (entryOf xs i))) (cursorAt (passed (q .found))) f)),
+        f,
+      )
     where
-      goes : (q : Searched xs s toGoDown ((entryOf xs i) .key) ((entryOf xs i) .number)) → Stands xs (cursorAt (passed (q .found))) → lastBefore xs ((entryOf xs i) .key) ((entryOf xs i) .number) ≡ got (cursorAt (passed (q .found)))
+      goes : (q : Searched xs s toGoDown ((entryOf xs i) .key) ((entryOf xs i) .number)) → Stands xs (cursorAt (passed (q .found)))
+          → lastBefore xs ((entryOf xs i) .key) ((entryOf xs i) .number) ≡ got (cursorAt (passed (q .found)))
       goes q h = rw (q .search) (landing-sound (cursorAt (passed (q .found))) h)
 
   moved-leads : (m : EntryMove) (c : Cursor) → Stands xs c → (d : Cursor) × (moved xs m c ≡ got d) × Leads xs m c d
   moved-leads first c h = (cursorAt (chains.first (lowest xs)), first-is, start _ refl)
-  moved-leads (seek k n) c h = let q = search-sound xs s toStop k n in let f = sought k n q in let d = cursorAt (standing (q .found)) in (d, rw (q .search) (landing-sound d (foremost-stands order (λ e. not (isLess (compareEntries (e .key) (e .number) k n))) d f)), f)
+  moved-leads (seek k n) c h =
+      let q = search-sound xs s toStop k n in
+      let f = sought k n q in
+      let d = cursorAt (standing (q .found)) in
+      (d, rw (q .search) (landing-sound d (foremost-stands order (λ e. not (isLess (compareEntries (e .key) (e .number) k n))) d f)), f)
   moved-leads next nowhere h = (cursorAt (chains.first (lowest xs)), first-is, start _ refl)
   moved-leads next (on i) h = step i h
   moved-leads previous nowhere h = (nowhere, refl, refl)

@@ -39,7 +39,8 @@ pub record Room (xs : List ℕ) (e : Entry) (h : ℕ) : Type 0 where
 module _ (xs : List ℕ) (s : Sound xs) (e : Entry) (h : ℕ) (room : Room xs e h) (prev pre post : List ℕ) (split : lowest xs ≡ pre ++ post)
     (recorded : (l : ℕ) → l < h → getD prev l 0 ≡ last 0 (tall (heightOf xs) l pre)) where
   pred-mem : (l : ℕ) → l < h → (getD prev l 0 ≡ 0) ⊎ (List·Memᴰ (getD prev l 0) (lowest xs) × (l < heightOf xs (getD prev l 0)))
-  pred-mem l k = rw (recorded l k) (⊎-elim inl (λ m. let (a, b) = tall-mem (heightOf xs) l pre _ m in inr (rw split (Memᴰ·append-left post a), b)) (List·Memᴰ·cases-cons (last-mem 0 (tall (heightOf xs) l pre))))
+  pred-mem l k =
+      rw (recorded l k) (⊎-elim inl (λ m. let (a, b) = tall-mem (heightOf xs) l pre _ m in inr (rw split (Memᴰ·append-left post a), b)) (List·Memᴰ·cases-cons (last-mem 0 (tall (heightOf xs) l pre))))
 
   pred-lands : (l : ℕ) → l < h → Lands xs (getD prev l 0) l
   pred-lands l k = ⊎-elim inl (λ (m, b). let w = s .within _ m in inr (w .0, w .1, b)) (pred-mem l k)
@@ -74,14 +75,17 @@ module _ (xs : List ℕ) (s : Sound xs) (e : Entry) (h : ℕ) (room : Room xs e 
   length-ys = w .length-kept
 
   -- a byte that is not in the free part, in the count or first free byte, or in a link that changes
-  kept-byte : (q : ℕ) → (4 ≤ q → q < 12 → ⊥) → (free xs ≤ q → q < length xs - 4 * count xs → ⊥) → ((l : ℕ) → l < h → linkPlace xs (getD prev l 0) l ≤ q → q < linkPlace xs (getD prev l 0) l + 4 → ⊥) → getD xs q 0 ≡ getD ys q 0
+  kept-byte : (q : ℕ) → (4 ≤ q → q < 12 → ⊥) → (free xs ≤ q → q < length xs - 4 * count xs → ⊥)
+      → ((l : ℕ) → l < h → linkPlace xs (getD prev l 0) l ≤ q → q < linkPlace xs (getD prev l 0) l + 4 → ⊥) → getD xs q 0 ≡ getD ys q 0
   kept-byte q a b c = sym (w .kept q a (λ x y. b x (omega (arith, room .space))) (λ x y. b (omega (arith, room .space)) y) c)
 
   old : (i : ℕ) → 1 ≤ i → i ≤ count xs → (slot ys i ≡ slot xs i) × NodeIs ys i (heightOf xs i) (entryOf xs i)
   old i p r = node-kept xs ys i (heightOf xs i) (entryOf xs i) length-ys (omega (arith, w .free-is))
       (λ q a b. kept-byte q (λ x y. omega (arith, room .space, s .header .low)) (λ x y. omega arith) (λ l k x y. omega (arith, places l k, room .space)))
-      (λ q a b. kept-byte q (λ x y. omega (arith, start)) (λ x y. omega (arith, end)) (λ l k. link-outside xs s (getD prev l 0) l i q (omega (arith, room .high)) (pred-lands l k) p r a (omega arith) (λ x y. omega arith)))
-      (λ q a b. kept-byte q (λ x y. omega (arith, start)) (λ x y. omega (arith, end)) (λ l k. link-outside xs s (getD prev l 0) l i q (omega (arith, room .high)) (pred-lands l k) p r (omega arith) b (λ x y. omega arith)))
+      (λ q a b. kept-byte q (λ x y. omega (arith, start)) (λ x y. omega (arith, end))
+      (λ l k. link-outside xs s (getD prev l 0) l i q (omega (arith, room .high)) (pred-lands l k) p r a (omega arith) (λ x y. omega arith)))
+      (λ q a b. kept-byte q (λ x y. omega (arith, start)) (λ x y. omega (arith, end))
+      (λ l k. link-outside xs s (getD prev l 0) l i q (omega (arith, room .high)) (pred-lands l k) p r (omega arith) b (λ x y. omega arith)))
       (s .reads i p r)
     where
       start : headerSize ≤ slot xs i
@@ -129,8 +133,10 @@ module _ (xs : List ℕ) (s : Sound xs) (e : Entry) (h : ℕ) (room : Room xs e 
 
   link-kept : (i l : ℕ) → l < levels → Lands xs i l → (l < h → i ≢ getD prev l 0) → linkOf ys i l ≡ linkOf xs i l
   unfolding linkOf
-  link-kept i l p c n = rw (link-place i l c) (sym (word-same xs ys (linkPlace xs i l) (λ q a b. kept-byte q (λ x y. omega (arith, place-low xs s i l c)) (λ x y. omega (arith, place-high xs s i l p c))
-      (λ k j x y. link-apart xs s (getD prev k 0) k i l (omega (arith, room .high)) p (pred-lands k j) c (λ z f. n (rw (← f) j) (sym z ∙ ap (λ (m : ℕ). getD prev m 0) f)) (omega arith) (omega arith)))))
+  link-kept i l p c n =
+      rw (link-place i l c) (sym (word-same xs ys (linkPlace xs i l) (λ q a b. kept-byte q (λ x y. omega (arith, place-low xs s i l c)) (λ x y. omega (arith, place-high xs s i l p c))
+      (λ k j x y. link-apart xs s (getD prev k 0) k i l (omega (arith, room .high)) p (pred-lands k j) c
+      (λ z f. n (rw (← f) j) (sym z ∙ ap (λ (m : ℕ). getD prev m 0) f)) (omega arith) (omega arith)))))
 
   link-joined : (l : ℕ) → l < h → linkOf ys (getD prev l 0) l ≡ suc (count xs)
   unfolding linkOf

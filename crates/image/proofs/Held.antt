@@ -5,7 +5,8 @@ use native.Mathlib.Nat.{le-refl}
 use native.Mathlib.Decide.{ℕ-discrete}
 use mathlib.Core.Path.{_≡_, refl, sym, ap, _∙_}
 use mathlib.Core.Logic.{_⊎_, inl, inr, ⊎-elim, _≢_}
-use mathlib.Core.List.{List, [], _∷_, _++_, map, map-append, List·Memᴰ, List·Memᴰ·head, List·Memᴰ·not-nil, List·Memᴰ·cases-cons, List·Memᴰ·append-cases, Memᴰ·append-left, Memᴰ·append-right, Memᴰ·cast, Memᴰ·map, Memᴰ·of-map}
+use mathlib.Core.List.{List, [], _∷_, _++_, map, map-append, List·Memᴰ, List·Memᴰ·head, List·Memᴰ·not-nil, List·Memᴰ·cases-cons, List·Memᴰ·append-cases}
+use mathlib.Core.List.{Memᴰ·append-left, Memᴰ·append-right, Memᴰ·cast, Memᴰ·map, Memᴰ·of-map}
 use Rattle.rule.specs.Lists.{cond, Maybe, none, some, All}
 use Rattle.rule.specs.Order.{Ord, compareKeys, isLess, isEqual}
 use Rattle.rule.specs.Entries.{Entry, Ascending, Agree}
@@ -33,7 +34,8 @@ pub held-from : (xs : List ℕ) (n : ℕ) (e : Entry) → List·Memᴰ e (heldUp
 held-from xs zero e m = absurd (List·Memᴰ·not-nil m)
 held-from xs (suc n) e m = go (held-from xs n e) (List·Memᴰ·append-cases (heldUpTo xs n) m)
   where
-    go : (List·Memᴰ e (heldUpTo xs n) → (i : ℕ) × (1 ≤ i) × (i ≤ n) × (entryOf xs i ≡ e)) → List·Memᴰ e (heldUpTo xs n) ⊎ List·Memᴰ e (entryOf xs (suc n) ∷ []) → (i : ℕ) × (1 ≤ i) × (i ≤ suc n) × (entryOf xs i ≡ e)
+    go : (List·Memᴰ e (heldUpTo xs n) → (i : ℕ) × (1 ≤ i) × (i ≤ n) × (entryOf xs i ≡ e)) → List·Memᴰ e (heldUpTo xs n) ⊎ List·Memᴰ e (entryOf xs (suc n) ∷ [])
+        → (i : ℕ) × (1 ≤ i) × (i ≤ suc n) × (entryOf xs i ≡ e)
     go ih (inl m) = let (i, p, q, f) = ih m in (i, p, omega arith, f)
     go ih (inr m) = (suc n, omega arith, omega arith, ⊎-elim sym (λ z. absurd (List·Memᴰ·not-nil z)) (List·Memᴰ·cases-cons m))
 
@@ -70,7 +72,9 @@ module _ (xs : List ℕ) (s : Sound xs) where
     where
       go : (q : Searched xs s mode k t) → newest k t (held xs) ≡ entryIf xs k (standing (q .found))
       go q = held-newest k t ∙ ap (newest k t) halves
-          ∙ newest-front k t (map (entryOf xs) (q .before)) (map (entryOf xs) (q .behind)) (rw halves at ordered) (all-map (entryOf xs) _ (q .before) (λ x m. sym (passes-less (probe (entryOf xs) k t x)) ∙ q .passes x m)) (all-map (entryOf xs) _ (q .behind) (λ x m. sym (passes-less (probe (entryOf xs) k t x)) ∙ q .refuses x m))
+          ∙ newest-front k t (map (entryOf xs) (q .before)) (map (entryOf xs) (q .behind)) (rw halves at ordered)
+          (all-map (entryOf xs) _ (q .before) (λ x m. sym (passes-less (probe (entryOf xs) k t x)) ∙ q .passes x m))
+          (all-map (entryOf xs) _ (q .behind) (λ x m. sym (passes-less (probe (entryOf xs) k t x)) ∙ q .refuses x m))
           ∙ front-is k (q .behind) (all-right (q .before) (q .behind) (rw (q .split) at (nonzero xs s))) ∙ ap (entryIf xs k) (sym (q .stands))
         where
           halves : inOrder ≡ map (entryOf xs) (q .before) ++ map (entryOf xs) (q .behind)
@@ -78,4 +82,5 @@ module _ (xs : List ℕ) (s : Sound xs) where
 
 -- no two entries held have one key and number
 pub held-single : (xs : List ℕ) → Sound xs → (e f : Entry) → List·Memᴰ e (held xs) → List·Memᴰ f (held xs) → e .key ≡ f .key → e .number ≡ f .number → e ≡ f
-held-single xs s e f m n p q = ascending-single (e .number) (inOrder xs s) (ordered xs s) e f ((held-agree xs s (e .number) e (le-refl _)) .1 m) ((held-agree xs s (e .number) f (rw q (le-refl _))) .1 n) (le-refl _) p q
+held-single xs s e f m n p q =
+    ascending-single (e .number) (inOrder xs s) (ordered xs s) e f ((held-agree xs s (e .number) e (le-refl _)) .1 m) ((held-agree xs s (e .number) f (rw q (le-refl _))) .1 n) (le-refl _) p q

@@ -11,7 +11,8 @@ use borrow.Author.Tests.{ltb-true, ltb-false}
 use Rattle.rule.specs.Lists.{cond, All}
 use Rattle.rule.proofs.Lists.{Distinct, here, all-cons, all-tail, all-right, mem-split}
 use Rattle.image.specs.Chains.{chain, tall, Chained}
-use Rattle.image.proofs.Chains.{first, last, last-mem, chain-first, chain-after, chain-ext, nextTall, tall-append, tall-keep, tall-skip, tall-mem, tall-all, tall-ext, Linked, chained-linked, linked-chained}
+use Rattle.image.proofs.Chains.{first, last, last-mem, chain-first, chain-after, chain-ext, nextTall, tall-append, tall-keep, tall-skip, tall-mem}
+use Rattle.image.proofs.Chains.{tall-all, tall-ext, Linked, chained-linked, linked-chained}
 
 -- two chains from one node are one
 pub chain-unique : (f : ℕ → ℕ) (x : ℕ) (ys zs : List ℕ) → All (λ y. y ≢ 0) ys → All (λ z. z ≢ 0) zs → chain f x ys → chain f x zs → ys ≡ zs
@@ -40,8 +41,10 @@ chain-last f c [] zs h = chain-first f (f c) zs h
 chain-last f c (y ∷ ys) zs h = chain-last f y ys zs (h .1)
 
 -- the predecessor of a place leads, at each level, to the next node of that level after the place
-pub linked-last : (top : ℕ) (height : ℕ → ℕ) (link : ℕ → ℕ → ℕ) (pre post : List ℕ) → Linked top height link (pre ++ post) → (l : ℕ) → l < top → link (last 0 (tall height l pre)) l ≡ nextTall height l post
-linked-last top height link pre post k l h = chain-last (λ i. link i l) 0 (tall height l pre) (tall height l post) (rw (← tall-append height l pre post) (linked-chained top height link (pre ++ post) k l h))
+pub linked-last : (top : ℕ) (height : ℕ → ℕ) (link : ℕ → ℕ → ℕ) (pre post : List ℕ) → Linked top height link (pre ++ post) → (l : ℕ) → l < top
+    → link (last 0 (tall height l pre)) l ≡ nextTall height l post
+linked-last top height link pre post k l h =
+    chain-last (λ i. link i l) 0 (tall height l pre) (tall height l post) (rw (← tall-append height l pre post) (linked-chained top height link (pre ++ post) k l h))
 
 -- so a linked list has no node twice
 pub linked-distinct : (t : ℕ) (height : ℕ → ℕ) (link : ℕ → ℕ → ℕ) (xs : List ℕ) → All (λ x. x ≢ 0) xs → All (λ x. 0 < height x) xs → Linked (suc t) height link xs → Distinct xs
@@ -118,5 +121,6 @@ linked-ext top g h f k xs same heads links linked = record {
 pub linked-head-unique : (top : ℕ) (height : ℕ → ℕ) (f g : ℕ → ℕ → ℕ) (xs : List ℕ) → Linked top height f xs → Linked top height g xs → (l : ℕ) → l < top → f 0 l ≡ g 0 l
 linked-head-unique top height f g xs p q l h = p .start l h ∙ sym (q .start l h)
 
-pub linked-unique : (top : ℕ) (height : ℕ → ℕ) (f g : ℕ → ℕ → ℕ) (xs : List ℕ) → Linked top height f xs → Linked top height g xs → (l : ℕ) → l < top → (x : ℕ) → List·Memᴰ x xs → l < height x → f x l ≡ g x l
+pub linked-unique : (top : ℕ) (height : ℕ → ℕ) (f g : ℕ → ℕ → ℕ) (xs : List ℕ) → Linked top height f xs → Linked top height g xs → (l : ℕ) → l < top → (x : ℕ)
+    → List·Memᴰ x xs → l < height x → f x l ≡ g x l
 linked-unique top height f g xs p q l h x m k = let (a, b, e) = mem-split m in p .step l h a x b e k ∙ sym (q .step l h a x b e k)

@@ -20,8 +20,9 @@ use Rattle.image.specs.Nodes.{count, Lead, Node, nodeFrom, leadOf, nodeA
 use Rattle.image.specs.Sound.{Header, headerHolds}
 use Rattle.image.specs.Search.{Turn, onward, halt, below, OnEqual, toStop, toGoDown, toPass, turnBy, Found, hit, ends, ask, meet, look, searched, standing, passed}
 use Rattle.image.specs.Refusals.{badImage, badNumber, longKey, noNode, damaged, Answer, given, demand, reading, refusalOf}
-use Rattle.image.specs.EntryMoves.{Cursor, nowhere, on, cursorAt, inTable, EntryMove, first, seek, next, previous, follow, landing, landingAfter, firstEntry, firstNotPassed, lastBefore, moved, allowed, entryMove, partsOn, viewed, keyView, viewRefusal}
-use Rattle.image.specs.Meaning.{IsNode, Ahead, Lands}
+use Rattle.image.specs.EntryMoves.{Cursor, nowhere, on, cursorAt, inTable, EntryMove, first, seek, next, previous, follow, landing, landingAfter}
+use Rattle.image.specs.EntryMoves.{firstEntry, firstNotPassed, lastBefore, moved, allowed, entryMove, partsOn, viewed, keyView, viewRefusal}
+use Rattle.image.specs.Meaning.{IsNode, EntryAhead, EntryLands}
 use Rattle.image.specs.Cuts.{Cut, all, from, above, below, admits, nearAt, nearest, NearLands}
 use Rattle.image.specs.Lookup.{Looked, found, deleted, absent, saysOf, saidAt}
 use Rattle.image.specs.Newest.{NewestAt, withNode, newestAt, NewestLands, NewestLandsOn}
@@ -48,11 +49,15 @@ module _ (xs : List ℕ) (mode : OnEqual) (k : List ℕ) (s : ℕ) where
 
   look-turn : (cur level : ℕ) (t : Turn) → look xs mode k s cur level ≡ got t → Judged (isOnward t) (linkOf xs cur level)
   unfolding look
-  look-turn cur level t e = go (linkOf xs cur level) ((check-got (leb (linkOf xs cur level) (count xs)) (linkPlace xs cur level) (meet xs mode k s level (linkPlace xs cur level) (linkOf xs cur level)) t e) .1)
+  look-turn cur level t e =
+      go (linkOf xs cur level) ((check-got (leb (linkOf xs cur level) (count xs)) (linkPlace xs cur level) (meet xs mode k s level (linkPlace xs cur level) (linkOf xs cur level)) t e) .1)
     where
       go : (x : ℕ) → meet xs mode k s level (linkPlace xs cur level) x ≡ got t → Judged (isOnward t) x
       go zero f = inl refl
-      go (suc x) f = let (m, g, f1) = bind-got (leadOf xs (suc x)) (ask xs mode k s level (linkPlace xs cur level)) t f in let (c, f2) = check-got (ltb level (m .height)) (linkPlace xs cur level) _ t f1 in inr (m, g, ap isOnward (got-same f2))
+      go (suc x) f =
+          let (m, g, f1) = bind-got (leadOf xs (suc x)) (ask xs mode k s level (linkPlace xs cur level)) t f in
+          let (c, f2) = check-got (ltb level (m .height)) (linkPlace xs cur level) _ t f1 in
+          inr (m, g, ap isOnward (got-same f2))
 
   abbrev FoundJudged : Found → Type 0
   FoundJudged (hit x looks) = Judged false x
@@ -135,7 +140,10 @@ module _ (xs : List ℕ) where
 
   landing-whole : (i : ℕ) → i ≤ count xs → (d : Cursor) → landing xs (cursorAt i) ≡ got d → Whole d
   landing-whole zero h d e = let z : nowhere ≡ d = got-same e in rw (← z) tt
-  landing-whole (suc i) h d e = let (m, g, f) = bind-got (nodeAt xs (suc i)) (λ m. got (on (suc i))) d e in let z : on (suc i) ≡ d = got-same f in rw (← z) (record { some = omega arith; most = h }, (m, g))
+  landing-whole (suc i) h d e =
+      let (m, g, f) = bind-got (nodeAt xs (suc i)) (λ m. got (on (suc i))) d e in
+      let z : on (suc i) ≡ d = got-same f in
+      rw (← z) (record { some = omega arith; most = h }, (m, g))
 
   first-whole : (d : Cursor) → firstEntry xs ≡ got d → Whole d
   first-whole d e = let (c, f, g) = bind-got (follow xs 0) (landing xs) d e in let (p, q) = check-got (leb (linkOf xs 0 0) (count xs)) (linkPlace xs 0 0) (got (cursorAt (linkOf xs 0 0))) c f in
@@ -149,7 +157,10 @@ module _ (xs : List ℕ) where
 
     led : (b : Bool) (i : ℕ) → i ≤ count xs → Judged xs mode k n b i → (d : Cursor) → landing xs (cursorAt i) ≡ got d → Led b d
     led b zero h j d e = let z : nowhere ≡ d = got-same e in rw (← z) tt
-    led b (suc i) h j d e = let (m, g, f) = bind-got (nodeAt xs (suc i)) (λ m. got (on (suc i))) d e in let z : on (suc i) ≡ d = got-same f in rw (← z) (record { some = omega arith; most = h }, (m, g), judged m g j)
+    led b (suc i) h j d e =
+        let (m, g, f) = bind-got (nodeAt xs (suc i)) (λ m. got (on (suc i))) d e in
+        let z : on (suc i) ≡ d = got-same f in
+        rw (← z) (record { some = omega arith; most = h }, (m, g), judged m g j)
       where
         judged : (m : Node) → nodeAt xs (suc i) ≡ got m → Judged xs mode k n b (suc i) → isOnward (turnBy mode (compareEntries ((entryOf xs (suc i)) .key) ((entryOf xs (suc i)) .number) k n)) ≡ b
         judged m g (inl z) = absurd (omega arith)
@@ -157,10 +168,14 @@ module _ (xs : List ℕ) where
             ∙ ap (λ (q : Keyed). isOnward (turnBy mode (compareEntries (keyIn xs q) (numberIn q) k n))) (lead-keyed xs (suc i) m g l f) ∙ t
 
     first-led : (d : Cursor) → firstNotPassed xs mode k n ≡ got d → Led false d
-    first-led d e = let (r, f, g) = bind-got (searched xs mode k n) (λ r. landing xs (cursorAt (standing r))) d e in led false (standing r) (standing-most xs mode k n r f) (standing-judged xs mode k n r f) d g
+    first-led d e =
+        let (r, f, g) = bind-got (searched xs mode k n) (λ r. landing xs (cursorAt (standing r))) d e in
+        led false (standing r) (standing-most xs mode k n r f) (standing-judged xs mode k n r f) d g
 
   last-led : (k : List ℕ) (n : ℕ) (d : Cursor) → lastBefore xs k n ≡ got d → Led toGoDown k n true d
-  last-led k n d e = let (r, f, g) = bind-got (searched xs toGoDown k n) (λ r. landing xs (cursorAt (passed r))) d e in led toGoDown k n true (passed r) (passed-most xs toGoDown k n r f) (passed-judged xs toGoDown k n r f) d g
+  last-led k n d e =
+      let (r, f, g) = bind-got (searched xs toGoDown k n) (λ r. landing xs (cursorAt (passed r))) d e in
+      led toGoDown k n true (passed r) (passed-most xs toGoDown k n r f) (passed-judged xs toGoDown k n r f) d g
 
 -- ---- the moves of the entry cursor
 
@@ -174,26 +189,26 @@ module _ (xs : List ℕ) (header : headerHolds xs ≡ true) where
   view-read : (i : ℕ) → IsNode xs i → (m : Node) × (nodeAt xs i ≡ got m) → viewRefusal xs (on i) ≡ 0
   view-read i n (m, g) = readable xs i m g header n
 
-  first-lands : (m : EntryMove) (c : Cursor) → ((j : ℕ) → Ahead xs m c j) → (d : Cursor) → Whole xs d → Lands xs m c d
+  first-lands : (m : EntryMove) (c : Cursor) → ((j : ℕ) → EntryAhead xs m c j) → (d : Cursor) → Whole xs d → EntryLands xs m c d
   first-lands m c a nowhere w = tt
   first-lands m c a (on j) (n, r) = (n, view-read j n r, a j)
 
-  seek-lands : (k : List ℕ) (n : ℕ) (c d : Cursor) → Led xs toStop k n false d → Lands xs (seek k n) c d
+  seek-lands : (k : List ℕ) (n : ℕ) (c d : Cursor) → Led xs toStop k n false d → EntryLands xs (seek k n) c d
   seek-lands k n c nowhere l = tt
   seek-lands k n c (on j) (h, r, t) = (h, view-read j h r, sym (stop-less (compareEntries ((entryOf xs j) .key) ((entryOf xs j) .number) k n)) ∙ t)
 
-  back-lands : (i : ℕ) (d : Cursor) → Led xs toGoDown ((entryOf xs i) .key) ((entryOf xs i) .number) true d → Lands xs previous (on i) d
+  back-lands : (i : ℕ) (d : Cursor) → Led xs toGoDown ((entryOf xs i) .key) ((entryOf xs i) .number) true d → EntryLands xs previous (on i) d
   back-lands i nowhere l = tt
   back-lands i (on j) (h, r, t) = (h, view-read j h r, less-true (order (entryOf xs j) (entryOf xs i)) (sym (down-less (order (entryOf xs j) (entryOf xs i))) ∙ t))
 
-  after-lands : (i : ℕ) (m : Node) → nodeAt xs i ≡ got m → (o x : ℕ) → x ≤ count xs → (d : Cursor) → landingAfter xs (m .parts .keyed) o (cursorAt x) ≡ got d → Lands xs next (on i) d
+  after-lands : (i : ℕ) (m : Node) → nodeAt xs i ≡ got m → (o x : ℕ) → x ≤ count xs → (d : Cursor) → landingAfter xs (m .parts .keyed) o (cursorAt x) ≡ got d → EntryLands xs next (on i) d
   after-lands i m g o zero h d e = let z : nowhere ≡ d = got-same e in rw (← z) tt
   after-lands i m g o (suc x) h d e = let (t, f, e1) = bind-got (nodeAt xs (suc x)) (λ t. check (isLess (compareKeyed xs (m .parts .keyed) (t .parts .keyed))) o (got (on (suc x)))) d e in
       let (p, e2) = check-got (isLess (compareKeyed xs (m .parts .keyed) (t .parts .keyed))) o (got (on (suc x))) d e1 in let z : on (suc x) ≡ d = got-same e2 in
       let n : IsNode xs (suc x) = record { some = omega arith; most = h } in
       rw (← z) (n, view-read (suc x) n (t, f), less-true (order (entryOf xs i) (entryOf xs (suc x))) (rw (entry-read xs i m g, entry-read xs (suc x) t f) p))
 
-  moved-lands : (m : EntryMove) (c d : Cursor) → moved xs m c ≡ got d → Lands xs m c d
+  moved-lands : (m : EntryMove) (c d : Cursor) → moved xs m c ≡ got d → EntryLands xs m c d
   moved-lands first c d e = first-lands first c (λ j. tt) d (first-whole xs d e)
   moved-lands (seek k n) c d e = seek-lands k n c d (first-led xs toStop k n d e)
   moved-lands next nowhere d e = first-lands next nowhere (λ j. tt) d (first-whole xs d e)
@@ -212,7 +227,7 @@ allowed-given next a d e = e
 allowed-given previous a d e = e
 
 -- a move that does not end nowhere ends onward, on a node that can be read whole
-pub move-lands : (xs : List ℕ) (m : EntryMove) (c d : Cursor) → entryMove xs m c ≡ given d → Lands xs m c d
+pub move-lands : (xs : List ℕ) (m : EntryMove) (c d : Cursor) → entryMove xs m c ≡ given d → EntryLands xs m c d
 unfolding entryMove
 move-lands xs m c d e = let (h, f) = demand-given (headerHolds xs) badImage (demand (inTable xs c) noNode (allowed m (reading (moved xs m c) given))) d e in
     let (_, g) = demand-given (inTable xs c) noNode (allowed m (reading (moved xs m c) given)) d f in
@@ -237,7 +252,8 @@ module _ (xs : List ℕ) (bytes : Bytes xs) (good : Header xs) where
   legal : (i : ℕ) (m : Node) → nodeAt xs i ≡ got m → Legal (entryOf xs i)
   legal i m g = (node-seen xs i m bytes (omega (arith, good .high)) g) .0 .legal
 
-  near-by : (c : Cut) (t : List ℕ) (b : Bool) (mode : OnEqual) (n : ℕ) → ((i : ℕ) (m : Node) → nodeAt xs i ≡ got m → isOnward (turnBy mode (compareEntries ((entryOf xs i) .key) ((entryOf xs i) .number) t n)) ≡ b → admits c t ((entryOf xs i) .key) ≡ true)
+  near-by : (c : Cut) (t : List ℕ) (b : Bool) (mode : OnEqual) (n : ℕ)
+      → ((i : ℕ) (m : Node) → nodeAt xs i ≡ got m → isOnward (turnBy mode (compareEntries ((entryOf xs i) .key) ((entryOf xs i) .number) t n)) ≡ b → admits c t ((entryOf xs i) .key) ≡ true)
       → (d : Cursor) → Led xs mode t n b d → NearLands xs c t d
   near-by c t b mode n a nowhere l = tt
   near-by c t b mode n a (on i) (h, (m, g), f) = (h, readable xs i m g header h, a i m g f)
@@ -249,13 +265,26 @@ module _ (xs : List ℕ) (bytes : Bytes xs) (good : Header xs) where
   near-at-lands : (c : Cut) (t : List ℕ) (d : Cursor) → nearAt xs c t ≡ got d → NearLands xs c t d
   unfolding compareEntries
   near-at-lands all t d e = near-first t d (first-whole xs d e)
-  near-at-lands from t d e = near-by from t false toStop maxNumber (λ i m g f. ap not (key-not-less ((entryOf xs i) .key) ((entryOf xs i) .number) t maxNumber (sym (stop-less (compareEntries ((entryOf xs i) .key) ((entryOf xs i) .number) t maxNumber)) ∙ f))) d (first-led xs toStop t maxNumber d e)
-  near-at-lands above t d e = near-by above t false toPass 0 (λ i m g f. rw (keys .flips ((entryOf xs i) .key) t) (not-false (isLess (flip (compareKeys ((entryOf xs i) .key) t))) (sym (upto-key (compareKeys ((entryOf xs i) .key) t) ((entryOf xs i) .number)) ∙ f))) d (first-led xs toPass t 0 d e)
-  near-at-lands below t d e = near-by below t true toGoDown maxNumber (λ i m g f. sym (before-key (compareKeys ((entryOf xs i) .key) t) ((entryOf xs i) .number) (legal i m g .number-low)) ∙ sym (down-less (compareEntries ((entryOf xs i) .key) ((entryOf xs i) .number) t maxNumber)) ∙ f) d (last-led xs t maxNumber d e)
+  near-at-lands from t d e =
+      near-by from t false toStop maxNumber
+      (λ i m g f. ap not (key-not-less ((entryOf xs i) .key) ((entryOf xs i) .number) t maxNumber
+      (sym (stop-less (compareEntries ((entryOf xs i) .key) ((entryOf xs i) .number) t maxNumber)) ∙ f))) d (first-led xs toStop t maxNumber d e)
+  near-at-lands above t d e =
+      near-by above t false toPass 0 (λ i m g f. rw (keys .flips ((entryOf xs i) .key) t)
+      (not-false (isLess (flip (compareKeys ((entryOf xs i) .key) t))) (sym (upto-key (compareKeys ((entryOf xs i) .key) t) ((entryOf xs i) .number)) ∙ f))) d
+      (first-led xs toPass t 0 d e)
+  near-at-lands below t d e =
+      near-by below t true toGoDown maxNumber
+      (λ i m g f. sym (before-key (compareKeys ((entryOf xs i) .key) t) ((entryOf xs i) .number) (legal i m g .number-low)) ∙
+      sym (down-less (compareEntries ((entryOf xs i) .key) ((entryOf xs i) .number) t maxNumber)) ∙ f) d (last-led xs t maxNumber d e)
 
 pub near-lands : (xs : List ℕ) → Bytes xs → (c : Cut) (t : List ℕ) (d : Cursor) → nearest xs c t ≡ given d → NearLands xs c t d
 unfolding nearest
-near-lands xs b c t d e = let (h, f) = demand-given (headerHolds xs) damaged (reading (nearAt xs c t) given) d e in let (x, g, q) = reading-given (nearAt xs c t) given d f in let z : x ≡ d = cc in near-at-lands xs b (header-sound xs h) c t d (rw z at g)
+near-lands xs b c t d e =
+    let (h, f) = demand-given (headerHolds xs) damaged (reading (nearAt xs c t) given) d e in
+    let (x, g, q) = reading-given (nearAt xs c t) given d f in
+    let z : x ≡ d = cc in
+    near-at-lands xs b (header-sound xs h) c t d (rw z at g)
 
 -- ---- the newest entry of a key
 
@@ -264,16 +293,23 @@ other-kind : (kind : ℕ) → kind ≤ 1 → eqb kind valueKind ≡ false → ki
 other-kind kind h e = omega (arith, eqb-false kind valueKind e)
 
 module _ (xs : List ℕ) (bytes : Bytes xs) (good : Header xs) (k : List ℕ) (s : ℕ) where
-  lands : (kind i : ℕ) → i ≤ count xs → 1 ≤ i → (m : Node) → nodeAt xs i ≡ got m → isEqual (compareKeys ((entryOf xs i) .key) k) ≡ true → (entryOf xs i) .kind ≡ kind → Judged xs toStop k s false i → NewestLands xs k s kind i
+  lands : (kind i : ℕ) → i ≤ count xs → 1 ≤ i → (m : Node) → nodeAt xs i ≡ got m → isEqual (compareKeys ((entryOf xs i) .key) k) ≡ true
+      → (entryOf xs i) .kind ≡ kind → Judged xs toStop k s false i → NewestLands xs k s kind i
   lands kind i h p m g same is (inl z) = absurd (omega arith)
-  lands kind i h p m g same is (inr (l, f, t)) = let n : IsNode xs i = record { some = p; most = h } in let key = keys .eq ((entryOf xs i) .key) k (equal-true (compareKeys ((entryOf xs i) .key) k) same) in record {
-    node = n;
-    readable = readable xs i m g (header-complete xs good) n;
-    key-is = key;
-    number-most = entries-not-less-number ((entryOf xs i) .key) ((entryOf xs i) .number) k s key (sym (stop-less (compareEntries ((entryOf xs i) .key) ((entryOf xs i) .number) k s)) ∙ ap (λ (e : Entry). isOnward (turnBy toStop (compareEntries (e .key) (e .number) k s))) (entry-read xs i m g)
-        ∙ ap (λ (q : Keyed). isOnward (turnBy toStop (compareEntries (keyIn xs q) (numberIn q) k s))) (lead-keyed xs i m g l f) ∙ t);
-    kind-is = is;
-  }
+  lands kind i h p m g same is (inr (l, f, t)) =
+      let n : IsNode xs i = record { some = p; most = h } in
+      let key = keys .eq ((entryOf xs i) .key) k (equal-true (compareKeys ((entryOf xs i) .key) k) same) in
+      record {
+        node = n;
+        readable = readable xs i m g (header-complete xs good) n;
+        key-is = key;
+        number-most =
+            entries-not-less-number ((entryOf xs i) .key) ((entryOf xs i) .number) k s key
+            (sym (stop-less (compareEntries ((entryOf xs i) .key) ((entryOf xs i) .number) k s)) ∙
+            ap (λ (e : Entry). isOnward (turnBy toStop (compareEntries (e .key) (e .number) k s))) (entry-read xs i m g)
+            ∙ ap (λ (q : Keyed). isOnward (turnBy toStop (compareEntries (keyIn xs q) (numberIn q) k s))) (lead-keyed xs i m g l f) ∙ t);
+        kind-is = is;
+      }
 
   said-lands : (i : ℕ) → i ≤ count xs → Judged xs toStop k s false i → (a : Looked) → saidAt xs k i ≡ got a → NewestLandsOn xs k s (withNode i a)
   said-lands zero h j a e = let z : absent ≡ a = got-same e in rw (← z) tt
@@ -281,14 +317,16 @@ module _ (xs : List ℕ) (bytes : Bytes xs) (good : Header xs) (k : List ℕ) (s
       let z : saysOf k (suc i) (entryOf xs (suc i)) ≡ a = ap (saysOf k (suc i)) (entry-read xs (suc i) m g) ∙ got-same f in
       rw (← z) (go m g (isEqual (compareKeys ((entryOf xs (suc i)) .key) k)) refl (eqb ((entryOf xs (suc i)) .kind) valueKind) refl)
     where
-      go : (m : Node) → nodeAt xs (suc i) ≡ got m → (b : Bool) → isEqual (compareKeys ((entryOf xs (suc i)) .key) k) ≡ b → (v : Bool) → eqb ((entryOf xs (suc i)) .kind) valueKind ≡ v → NewestLandsOn xs k s (withNode (suc i) (cond b (cond v (found (suc i)) deleted) absent))
+      go : (m : Node) → nodeAt xs (suc i) ≡ got m → (b : Bool) → isEqual (compareKeys ((entryOf xs (suc i)) .key) k) ≡ b → (v : Bool)
+          → eqb ((entryOf xs (suc i)) .kind) valueKind ≡ v → NewestLandsOn xs k s (withNode (suc i) (cond b (cond v (found (suc i)) deleted) absent))
       go m g true p true q = lands valueKind (suc i) h (omega arith) m g p (eqb-true ((entryOf xs (suc i)) .kind) valueKind q) j
       go m g true p false q = lands deletionKind (suc i) h (omega arith) m g p (other-kind ((entryOf xs (suc i)) .kind) (legal xs bytes good (suc i) m g .kind-known) q) j
       go m g false p v q = tt
 
 pub newest-lands : (xs : List ℕ) → Bytes xs → (k : List ℕ) (s : ℕ) (v : NewestAt) → newestAt xs k s ≡ given v → NewestLandsOn xs k s v
 unfolding newestAt
-newest-lands xs b k s v e = let (h, f) = demand-given (headerHolds xs) damaged (reading (searched xs toStop k s) (λ r. reading (saidAt xs k (standing r)) (λ a. given (withNode (standing r) a)))) v e in
+newest-lands xs b k s v e =
+    let (h, f) = demand-given (headerHolds xs) damaged (reading (searched xs toStop k s) (λ r. reading (saidAt xs k (standing r)) (λ a. given (withNode (standing r) a)))) v e in
     let (r, g, f1) = reading-given (searched xs toStop k s) (λ r. reading (saidAt xs k (standing r)) (λ a. given (withNode (standing r) a))) v f in
     let (a, p, q) = reading-given (saidAt xs k (standing r)) (λ a. given (withNode (standing r) a)) v f1 in
     let z : withNode (standing r) a ≡ v = cc in rw (← z) (said-lands xs b (header-sound xs h) k s (standing r) (standing-most xs toStop k s r g) (standing-judged xs toStop k s r g) a p)

@@ -28,7 +28,16 @@ len-read xs end o n l h b = go (ltb n 128) refl h b
         let high : 128 ≤ n = ltb-false n 128 e in
         let second : getD xs (o + 1) 0 ≡ n / 128 = rw (add-one o) (h .1 .0) in
         let whole : (128 + n % 128 - 128) + 128 * (n / 128) ≡ n = omega arith in
-        rw (lt-ltb o end (omega arith), h .0, le-ltb (128 + n % 128) 128 (omega arith), lt-ltb (o + 1) end (omega arith), second, le-leb 1 (n / 128) (omega arith), lt-ltb (n / 128) 128 (omega arith), whole)
+        rw (
+          lt-ltb o end (omega arith),
+          h .0,
+          le-ltb (128 + n % 128) 128 (omega arith),
+          lt-ltb (o + 1) end (omega arith),
+          second,
+          le-leb 1 (n / 128) (omega arith),
+          lt-ltb (n / 128) 128 (omega arith),
+          whole,
+        )
 
 -- and what is read was written
 pub record LenHere (xs : List ℕ) (end o : ℕ) (r : Len) : Type 0 where
@@ -42,7 +51,9 @@ unfolding lenAt
 len-sound xs end o r b e = let (p, q) = check-got (ltb o end) o _ r e in go (ltb-true o end p) (ltb (getD xs o 0) 128) refl q
   where
     go : o < end → (t : Bool) → ltb (getD xs o 0) 128 ≡ t
-        → cond t (got (record { is = getD xs o 0; after = o + 1 })) (check (both (ltb (o + 1) end) (both (leb 1 (getD xs (o + 1) 0)) (ltb (getD xs (o + 1) 0) 128))) o (got (record { is = (getD xs o 0 - 128) + 128 * getD xs (o + 1) 0; after = o + 2 }))) ≡ got r
+        → cond t (got (record { is = getD xs o 0; after = o + 1 }))
+        (check (both (ltb (o + 1) end) (both (leb 1 (getD xs (o + 1) 0)) (ltb (getD xs (o + 1) 0) 128))) o
+        (got (record { is = (getD xs o 0 - 128) + 128 * getD xs (o + 1) 0; after = o + 2 }))) ≡ got r
         → LenHere xs end o r
     go lo true t f =
         let is : getD xs o 0 ≡ r .is = ap (λ (l : Len). l .is) (got-same f) in
@@ -62,3 +73,19 @@ len-sound xs end o r b e = let (p, q) = check-got (ltb o end) o _ r e in go (ltb
         let h2 = ltb-true (getD xs (o + 1) 0) 128 p4 in
         let s : ltb (r .is) 128 ≡ false = le-ltb (r .is) 128 (omega arith) in
         record { small = omega arith; here = rw s (omega arith, (omega arith, tt)); next = rw s (omega arith); inside = omega (arith, ltb-true (o + 1) end p1) }
+
+-- what stands behind a length stands behind the place where it begins
+pub len-behind : (xs : List ℕ) (end o : ℕ) (l : Len) → lenAt xs end o ≡ got l → o ≤ l .after
+unfolding lenAt
+len-behind xs end o l g = let (_, f) = check-got (ltb o end) o _ l g in go (ltb (getD xs o 0) 128) f
+  where
+    one : Len
+    one = record { is = getD xs o 0; after = o + 1 }
+
+    two : Len
+    two = record { is = (getD xs o 0 - 128) + 128 * getD xs (o + 1) 0; after = o + 2 }
+
+    go : (t : Bool) → cond t (got one) (check (both (ltb (o + 1) end) (both (leb 1 (getD xs (o + 1) 0)) (ltb (getD xs (o + 1) 0) 128))) o (got two)) ≡ got l → o ≤ l .after
+    go true e = let z : o + 1 ≡ l .after = ap (λ (q : Len). q .after) (got-same e) in omega arith
+    go false e = let (_, f) = check-got (both (ltb (o + 1) end) (both (leb 1 (getD xs (o + 1) 0)) (ltb (getD xs (o + 1) 0) 128))) o (got two) l e in
+        let z : o + 2 ≡ l .after = ap (λ (q : Len). q .after) (got-same f) in omega arith

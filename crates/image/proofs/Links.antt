@@ -41,7 +41,8 @@ module _ (xs : List ℕ) (s : Sound xs) where
       go (no m) (no o) = omega (arith, in-node x l p q r, in-node y k t u v, ends-slot xs s y x t (omega arith) q)
 
   -- no link meets a node's height, length or entry
-  pub link-outside : (x l i q : ℕ) → l < levels → Lands xs x l → 1 ≤ i → i ≤ count xs → slot xs i ≤ q → q < slot xs i + sizeAt xs i → (slot xs i + 8 ≤ q → q < entryPlace (slot xs i) (heightOf xs i) → ⊥)
+  pub link-outside : (x l i q : ℕ) → l < levels → Lands xs x l → 1 ≤ i → i ≤ count xs → slot xs i ≤ q → q < slot xs i + sizeAt xs i
+      → (slot xs i + 8 ≤ q → q < entryPlace (slot xs i) (heightOf xs i) → ⊥)
       → linkPlace xs x l ≤ q → q < linkPlace xs x l + 4 → ⊥
   link-outside x l i q a (inl e) p r lo hi n c d = omega (arith, ap (linksAt xs) e, (s .reads i p r) .after-header)
   link-outside x l i q a (inr (t, u, v)) p r lo hi n c d = go (ℕ-discrete x i) (decLt x i)

@@ -67,7 +67,12 @@ presence-given xs k n kind a e =
 module _ (xs : List ℕ) (s : Sound xs) where
   -- a node of a sound image is read, with its entry
   pub node-is : (i : ℕ) → IsNode xs i → (m : Node) × (nodeAt xs i ≡ got m) × (entryIn xs (m .parts) ≡ entryOf xs i)
-  node-is i n = (nodeFor (slot xs i) (heightOf xs i) (entryOf xs i), sound-node xs s i (n .some) (n .most), node-entry xs (free xs) (slot xs i) (heightOf xs i) (entryOf xs i) (omega (arith, s .header .high)) (s .reads i (n .some) (n .most)))
+  node-is i n = (
+    nodeFor (slot xs i) (heightOf xs i) (entryOf xs i),
+    sound-node xs s i (n .some) (n .most),
+    node-entry xs (free xs) (slot xs i) (heightOf xs i) (entryOf xs i)
+        (omega (arith, s .header .high)) (s .reads i (n .some) (n .most)),
+  )
 
   pub kind-is : (i : ℕ) → IsNode xs i → (entryOf xs i) .kind ≤ 1
   kind-is i n = (s .reads i (n .some) (n .most)) .legal .kind-known
@@ -84,9 +89,16 @@ module _ (xs : List ℕ) (s : Sound xs) where
   pub said : (k : List ℕ) (t i : ℕ) → newest k t (held xs) ≡ entryIf xs k i → (i ≡ 0) ⊎ IsNode xs i → (a : Looked) × (saidAt xs k i ≡ got a) × Tells xs k t a
   said k t zero f n = (absent, refl, f)
   said k t (suc i) f (inl z) = absurd (omega arith)
-  said k t (suc i) f (inr n) = let (m, g, e) = node-is (suc i) n in (saysOf k (suc i) (entryOf xs (suc i)), rw g (ap (λ (d : Entry). got (saysOf k (suc i) d)) e), go (isEqual (compareKeys ((entryOf xs (suc i)) .key) k)) refl (eqb ((entryOf xs (suc i)) .kind) valueKind) refl f)
+  said k t (suc i) f (inr n) =
+      let (m, g, e) = node-is (suc i) n in (
+        saysOf k (suc i) (entryOf xs (suc i)),
+        rw g (ap (λ (d : Entry). got (saysOf k (suc i) d)) e),
+        go (isEqual (compareKeys ((entryOf xs (suc i)) .key) k)) refl
+            (eqb ((entryOf xs (suc i)) .kind) valueKind) refl f,
+      )
     where
-      go : (b : Bool) → isEqual (compareKeys ((entryOf xs (suc i)) .key) k) ≡ b → (c : Bool) → eqb ((entryOf xs (suc i)) .kind) valueKind ≡ c → newest k t (held xs) ≡ cond b (some (entryOf xs (suc i))) none → Tells xs k t (cond b (cond c (found (suc i)) deleted) absent)
+      go : (b : Bool) → isEqual (compareKeys ((entryOf xs (suc i)) .key) k) ≡ b → (c : Bool) → eqb ((entryOf xs (suc i)) .kind) valueKind ≡ c
+          → newest k t (held xs) ≡ cond b (some (entryOf xs (suc i))) none → Tells xs k t (cond b (cond c (found (suc i)) deleted) absent)
       go false p c q h = h
       go true p true q h = (n, h, eqb-true ((entryOf xs (suc i)) .kind) valueKind q)
       go true p false q h = let z = eqb-false ((entryOf xs (suc i)) .kind) valueKind q in (entryOf xs (suc i), h, omega (arith, kind-is (suc i) n))
@@ -116,13 +128,18 @@ module _ (xs : List ℕ) (s : Sound xs) where
       answers r f b g = rw (header-complete xs (s .header), le-leb kind 1 known, le-leb n maxNumber low, le-leb (length k) maxKey short, f, g)
 
       alone : (i j : ℕ) → IsNode xs i → IsNode xs j → Duplicates (entryOf xs i) probe → Duplicates (entryOf xs j) probe → entryOf xs i ≡ entryOf xs j
-      alone i j a b c d = held-single xs s (entryOf xs i) (entryOf xs j) (held-has xs (count xs) i (a .some) (a .most)) (held-has xs (count xs) j (b .some) (b .most)) (c .0 ∙ sym (d .0)) (c .1 ∙ sym (d .1))
+      alone i j a b c d =
+          held-single xs s (entryOf xs i) (entryOf xs j) (held-has xs (count xs) i (a .some) (a .most)) (held-has xs (count xs) j (b .some) (b .most)) (c .0 ∙ sym (d .0)) (c .1 ∙ sym (d .1))
 
       go : IsDuplicate xs s probe 1 ⊎ IsNew xs s probe 1 → (a : Presence) × (presence xs k n kind ≡ given a) × ((a .held ≡ true) ↔ IsHeld xs k n kind)
       go (inr d) = (
         record { held = false; looks = d .looks },
         answers (ends (d .before) (d .after) (d .looks) (d .recorded)) (d .found) false refl,
-        (λ z. absurd (true≢false (sym z)), λ (e, m, a, b, c). let (i, p, q, f) = held-from xs (count xs) e m in absurd (d .nowhere i p q (ap (λ (g : Entry). g .key) f ∙ a, ap (λ (g : Entry). g .number) f ∙ b))),
+        (
+          λ z. absurd (true≢false (sym z)),
+          λ (e, m, a, b, c). let (i, p, q, f) = held-from xs (count xs) e m
+              in absurd (d .nowhere i p q (ap (λ (g : Entry). g .key) f ∙ a, ap (λ (g : Entry). g .number) f ∙ b)),
+        ),
       )
       go (inl d) = let node : IsNode xs (d .node) = record { some = d .some; most = d .most } in let (m, g, f) = node-is (d .node) node in (
         record { held = eqb ((entryOf xs (d .node)) .kind) kind; looks = d .looks },
@@ -130,6 +147,8 @@ module _ (xs : List ℕ) (s : Sound xs) where
         (
           λ z. (entryOf xs (d .node), held-has xs (count xs) (d .node) (d .some) (d .most), d .same .0, d .same .1, eqb-true ((entryOf xs (d .node)) .kind) kind z),
           λ (e, h, a, b, c). let (i, p, q, w) = held-from xs (count xs) e h in
-              eq-eqb ((entryOf xs (d .node)) .kind) kind (ap (λ (g : Entry). g .kind) (alone (d .node) i node (record { some = p; most = q }) (d .same) (ap (λ (g : Entry). g .key) w ∙ a, ap (λ (g : Entry). g .number) w ∙ b) ∙ w) ∙ c),
+              eq-eqb ((entryOf xs (d .node)) .kind) kind
+              (ap (λ (g : Entry). g .kind) (alone (d .node) i node (record { some = p; most = q }) (d .same)
+              (ap (λ (g : Entry). g .key) w ∙ a, ap (λ (g : Entry). g .number) w ∙ b) ∙ w) ∙ c),
         ),
       )

@@ -30,7 +30,8 @@ module _ (look : ℕ → ℕ → Read Turn) (link place : ℕ → ℕ → ℕ) w
   unfolding find
   find-ends n cur looks prev e = rw (e, find)
 
-  pub find-down : (n cur low looks : ℕ) (prev : List ℕ) → look cur (suc low) ≡ got below → find look link place (suc n) cur (suc low) looks prev ≡ find look link place n cur low (suc looks) (set prev (suc low) cur)
+  pub find-down : (n cur low looks : ℕ) (prev : List ℕ) → look cur (suc low) ≡ got below
+      → find look link place (suc n) cur (suc low) looks prev ≡ find look link place n cur low (suc looks) (set prev (suc low) cur)
   unfolding find
   find-down n cur low looks prev e = rw (e, find)
 

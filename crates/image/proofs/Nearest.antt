@@ -110,7 +110,8 @@ module _ (xs : List ℕ) (s : Sound xs) where
 
   module _ (c : Cut) (t : List ℕ) where
     -- the foremost entry behind the cut has the nearest key
-    nearest-by : (cmp : Entry → Entry → Ord) → ((e f : Entry) → isLess (cmp e f) ≡ false → isLess (cmpOf c (e .key) (f .key)) ≡ false) → (d : Cursor) → Foremost cmp (λ e. admits c t (e .key)) xs d → NearestIs xs c t d
+    nearest-by : (cmp : Entry → Entry → Ord) → ((e f : Entry) → isLess (cmp e f) ≡ false → isLess (cmpOf c (e .key) (f .key)) ≡ false) → (d : Cursor)
+        → Foremost cmp (λ e. admits c t (e .key)) xs d → NearestIs xs c t d
     nearest-by cmp keeps nowhere f = f
     nearest-by cmp keeps (on i) (n, a, f) = (n, ((entryOf xs i, held-has xs (count xs) i (n .some) (n .most), refl), a, λ e m q. keeps e (entryOf xs i) (f e m q)))
 
@@ -146,7 +147,8 @@ module _ (xs : List ℕ) (s : Sound xs) where
         last-passed q (ends p x looks prev) f = (q .misses p x looks prev f) .last-passed
 
         near-at : (q : Searched xs s toGoDown t n) → All (λ x. passTest xs toGoDown t n x ≡ admits c t (keyOf x)) (q .before ++ q .behind) → NearestIs xs c t (cursorAt (passed (q .found)))
-        near-at q p = rw (last-passed q (q .found) refl) (nearest-by (λ e f. order f e) keeps (cursorAt (last 0 (q .before))) (foremost-last xs s (λ e. admits c t (e .key)) (q .before) (q .behind) (q .split)
+        near-at q p =
+            rw (last-passed q (q .found) refl) (nearest-by (λ e f. order f e) keeps (cursorAt (last 0 (q .before))) (foremost-last xs s (λ e. admits c t (e .key)) (q .before) (q .behind) (q .split)
             (λ x m. sym (all-left (q .before) (q .behind) p x m) ∙ q .passes x m) (λ x m. sym (all-right (q .before) (q .behind) p x m) ∙ q .refuses x m)))
 
   -- the nearest key behind a cut: never damaged, and the right one

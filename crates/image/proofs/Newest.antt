@@ -48,4 +48,7 @@ module _ (xs : List ℕ) (s : Sound xs) (k : List ℕ) (t : ℕ) where
   newest-right = go (search-sound xs s toStop k t) (lookup-right xs s toStop stop-less k t)
     where
       go : (q : Searched xs s toStop k t) → newest k t (held xs) ≡ entryIf xs k (standing (q .found)) → (v : NewestAt) × (newestAt xs k t ≡ given v) × NewestIs xs k t v
-      go q f = let n = stands-on xs s k t q in let (a, g, m) = said xs s k t (standing (q .found)) f n in (withNode (standing (q .found)) a, rw (header-complete xs (s .header), q .search, g), told (standing (q .found)) f n a m)
+      go q f =
+          let n = stands-on xs s k t q in
+          let (a, g, m) = said xs s k t (standing (q .found)) f n in
+          (withNode (standing (q .found)) a, rw (header-complete xs (s .header), q .search, g), told (standing (q .found)) f n a m)

@@ -87,7 +87,8 @@ pub node-steps : (xs : List ℕ) (m : Lead) (n : Node) → nodeFrom xs m ≡ got
 node-steps xs m n g = let (p, gp, g1) = bind-got (restAt xs (m .end) (m .keyed)) _ n g in record { parts = p; read = gp; is = got-same g1 }
 
 -- and what is read stands there
-pub node-sound : (xs : List ℕ) (limit o : ℕ) (n : Node) → Bytes xs → limit ≤ length xs → bind (leadAt xs limit o) (nodeFrom xs) ≡ got n → NodeHere xs limit o (n .height) (entryIn xs (n .parts)) × (n .end ≡ o + sizeOf (n .height) (entryIn xs (n .parts)))
+pub node-sound : (xs : List ℕ) (limit o : ℕ) (n : Node) → Bytes xs → limit ≤ length xs → bind (leadAt xs limit o) (nodeFrom xs) ≡ got n
+    → NodeHere xs limit o (n .height) (entryIn xs (n .parts)) × (n .end ≡ o + sizeOf (n .height) (entryIn xs (n .parts)))
 node-sound xs limit o n b le g = let (m, gm, gn) = bind-got (leadAt xs limit o) (nodeFrom xs) n g in go m (lead-steps xs limit o m gm) (node-steps xs m n gn)
   where
     h : ℕ
@@ -154,7 +155,8 @@ lead-bounds xs limit o m g = go (lead-steps xs limit o m g)
         }
 
 -- and so do the parts of a whole node
-pub node-inside : (xs : List ℕ) (limit o : ℕ) (n : Node) → bind (leadAt xs limit o) (nodeFrom xs) ≡ got n → (n .parts .keyed .keyAt + n .parts .keyed .keyLen ≤ limit) × (n .parts .valueAt + n .parts .valueLen ≤ limit)
+pub node-inside : (xs : List ℕ) (limit o : ℕ) (n : Node) → bind (leadAt xs limit o) (nodeFrom xs) ≡ got n
+    → (n .parts .keyed .keyAt + n .parts .keyed .keyLen ≤ limit) × (n .parts .valueAt + n .parts .valueLen ≤ limit)
 node-inside xs limit o n g = let (m, gm, gn) = bind-got (leadAt xs limit o) (nodeFrom xs) n g in go m (lead-bounds xs limit o m gm) (node-steps xs m n gn)
   where
     go : (m : Lead) → Bounds xs limit o m → NodeSteps xs m n → (n .parts .keyed .keyAt + n .parts .keyed .keyLen ≤ limit) × (n .parts .valueAt + n .parts .valueLen ≤ limit)
@@ -173,7 +175,8 @@ value-behind xs limit o n g = let (m, gm, gn) = bind-got (leadAt xs limit o) (no
         rw (← t .is) (omega (arith, b .behind, b .rest-is, at, rest))
 
 -- a node is kept where its height, its length and its entry are
-pub node-same : (xs ys : List ℕ) (limit limit′ o h : ℕ) (e : Entry) → limit ≤ limit′ → Same xs ys o (o + 8) → Same xs ys (entryPlace o h) (o + sizeOf h e) → NodeHere xs limit o h e → NodeHere ys limit′ o h e
+pub node-same : (xs ys : List ℕ) (limit limit′ o h : ℕ) (e : Entry) → limit ≤ limit′ → Same xs ys o (o + 8) → Same xs ys (entryPlace o h) (o + sizeOf h e)
+    → NodeHere xs limit o h e → NodeHere ys limit′ o h e
 node-same xs ys limit limit′ o h e le s t n = record {
   after-header = n .after-header;
   height-here = sym (word-same xs ys o (λ i p q. s i p (omega arith))) ∙ n .height-here;

@@ -28,12 +28,16 @@ module _ (entry : ℕ → Entry) (k : List ℕ) (s : ℕ) where
   -- of the nodes that are not before the probe, only the first can be it
   exact-first : (post : List ℕ) → Pairwise (λ x y. order (entry x) (entry y) ≡ less) post → All (λ x. before x ≡ false) post → All (λ x. exact x ≡ true → x ≡ first post) post
   exact-first [] a h = all-nil _
-  exact-first (y ∷ ys) a h = all-cons (λ _. refl) (λ x m e. absurd (true≢false (sym (ap isLess (less-equal comparePairs entries ((entry y) .key, (entry y) .number) ((entry x) .key, (entry x) .number) (k, s) (a .0 x m) (equal-true (probe x) e))) ∙ h y here)))
+  exact-first (y ∷ ys) a h =
+      all-cons (λ _. refl) (λ x m e. absurd (true≢false
+      (sym (ap isLess (less-equal comparePairs entries ((entry y) .key, (entry y) .number) ((entry x) .key, (entry x) .number) (k, s) (a .0 x m)
+      (equal-true (probe x) e))) ∙ h y here)))
 
   -- a search with these two tests is parted, and the newest entry is at the first node that is not before the probe
   pub probe-parted : (height : ℕ → ℕ) (xs : List ℕ) → All (λ x. x ≢ 0) xs → All (λ x. 0 < height x) xs → Pairwise (λ x y. order (entry x) (entry y) ≡ less) xs
       → (pre : List ℕ) × (post : List ℕ) × (xs ≡ pre ++ post) × Parted height before exact pre post × (newest k s (map entry xs) ≡ front k (map entry post))
-  probe-parted height xs nz high a = go (part before xs (pairwise-map _ _ xs (λ x y h. less-passes comparePairs entries ((entry x) .key, (entry x) .number) ((entry y) .key, (entry y) .number) (k, s) h) a))
+  probe-parted height xs nz high a =
+      go (part before xs (pairwise-map _ _ xs (λ x y h. less-passes comparePairs entries ((entry x) .key, (entry x) .number) ((entry y) .key, (entry y) .number) (k, s) h) a))
     where
       go : (pre : List ℕ) × (post : List ℕ) × (xs ≡ pre ++ post) × All (λ x. before x ≡ true) pre × All (λ x. before x ≡ false) post
           → (pre : List ℕ) × (post : List ℕ) × (xs ≡ pre ++ post) × Parted height before exact pre post × (newest k s (map entry xs) ≡ front k (map entry post))
@@ -42,7 +46,9 @@ module _ (entry : ℕ → Entry) (k : List ℕ) (s : ℕ) where
         post,
         e,
         record { nonzero = rw e at nz; high = rw e at high; passes = h; refuses = g; stops = exact-first post (pairwise-right _ pre post (rw e at a)) g },
-        rw (e, map-append entry pre post) (newest-front k s (map entry pre) (map entry post) (rw (← map-append entry pre post) (pairwise-on entry _ (pre ++ post) (rw e at a))) (all-map entry _ pre h) (all-map entry _ post g)),
+        rw (e, map-append entry pre post)
+            (newest-front k s (map entry pre) (map entry post) (rw (← map-append entry pre post) (pairwise-on entry _ (pre ++ post) (rw e at a))) (all-map entry _ pre h)
+            (all-map entry _ post g)),
       )
 
   -- a node of the probe's key and number, put in at its place, keeps the order

@@ -61,11 +61,16 @@ module _ (xs : List ℕ) (mode : OnEqual) (k : List ℕ) (s : ℕ) where
   -- a search passes only such nodes
   pub look-good : (cur level : ℕ) → look xs mode k s cur level ≡ got onward → HasLink xs (linkOf xs cur level) level
   unfolding look
-  look-good cur level e = let (p, q) = check-got (leb (linkOf xs cur level) (count xs)) (linkPlace xs cur level) (meet xs mode k s level (linkPlace xs cur level) (linkOf xs cur level)) onward e in go (linkOf xs cur level) (leb-true (linkOf xs cur level) (count xs) p) q
+  look-good cur level e =
+      let (p, q) = check-got (leb (linkOf xs cur level) (count xs)) (linkPlace xs cur level) (meet xs mode k s level (linkPlace xs cur level) (linkOf xs cur level)) onward e in
+      go (linkOf xs cur level) (leb-true (linkOf xs cur level) (count xs) p) q
     where
       go : (x : ℕ) → x ≤ count xs → meet xs mode k s level (linkPlace xs cur level) x ≡ got onward → HasLink xs x level
       go zero h f = let z : below ≡ onward = got-same f in inl refl
-      go (suc x) h f = let (m, g, f1) = bind-got (leadOf xs (suc x)) (ask xs mode k s level (linkPlace xs cur level)) onward f in let (c, f2) = check-got (ltb level (m .height)) (linkPlace xs cur level) _ onward f1 in inr (omega arith, h, (m, g, ltb-true level (m .height) c))
+      go (suc x) h f =
+          let (m, g, f1) = bind-got (leadOf xs (suc x)) (ask xs mode k s level (linkPlace xs cur level)) onward f in
+          let (c, f2) = check-got (ltb level (m .height)) (linkPlace xs cur level) _ onward f1 in
+          inr (omega arith, h, (m, g, ltb-true level (m .height) c))
 
   -- so what it records at each level can be written to
   abbrev pub AllGood : Found → Type 0
@@ -89,7 +94,13 @@ module _ (xs : List ℕ) (mode : OnEqual) (k : List ℕ) (s : ℕ) where
   searched-good r e = find-keeps (look xs mode k s) (linkOf xs) (linkPlace xs) (λ n cur level looks prev. Standing cur level prev) AllGood (record {
     passing = λ n cur level looks prev f t. record { wide = t .wide; here = look-good cur level f; above = t .above };
     stopping = λ n cur level looks prev f t. tt;
-    lowering = λ n cur low looks prev f t. record { wide = length-set prev (suc low) cur ∙ t .wide; here = good-lower xs cur (suc low) low (omega arith) (t .here); above = λ l a b. record-good cur (suc low) prev t l (omega arith) b };
+    lowering =
+        λ n cur low looks prev f t. record {
+          wide = length-set prev (suc low) cur ∙ t .wide;
+          here = good-lower xs cur (suc low) low (omega arith) (t .here);
+          above
+              = λ l a b. record-good cur (suc low) prev t l (omega arith) b;
+        };
     ending = λ n cur looks prev f t l b. record-good cur 0 prev t l (omega arith) b;
   }) (count xs + levels) 0 (levels - 1) 0 (replicate levels 0) r (record { wide = refl; here = inl refl; above = λ l a b. absurd (omega arith) }) e
 
@@ -140,7 +151,8 @@ module _ (xs : List ℕ) (sound : Sound xs) (mode : OnEqual) (k : List ℕ) (s :
       node zero m l n = absurd (n refl)
       node (suc x) m l n = let w = sound .within (suc x) m in let r = sound .reads (suc x) (w .0) (w .1) in
           rw (lead-read xs (free xs) (slot xs (suc x)) (heightOf xs (suc x)) (entryOf xs (suc x)) r, lt-ltb level (heightOf xs (suc x)) l)
-          (ap (λ (e : Entry). got (turnBy mode (compareEntries (e .key) (e .number) k s))) (node-entry xs (free xs) (slot xs (suc x)) (heightOf xs (suc x)) (entryOf xs (suc x)) (omega (arith, sound .header .high)) r))
+          (ap (λ (e : Entry). got (turnBy mode (compareEntries (e .key) (e .number) k s)))
+          (node-entry xs (free xs) (slot xs (suc x)) (heightOf xs (suc x)) (entryOf xs (suc x)) (omega (arith, sound .header .high)) r))
 
       go : (x : ℕ) → (x ≡ 0) ⊎ (List·Memᴰ x (lowest xs) × (level < heightOf xs x))
           → check (leb x (count xs)) (linkPlace xs cur level) (meet xs mode k s level (linkPlace xs cur level) x) ≡ got (turn (passTest xs mode k s) (stopTest xs mode k s) x)
@@ -160,8 +172,19 @@ module _ (xs : List ℕ) (sound : Sound xs) (k : List ℕ) (s : ℕ) where
   Splits mode = (pre : List ℕ) × (post : List ℕ) × (lowest xs ≡ pre ++ post) × Parted (heightOf xs) (passTest xs mode k s) (stopTest xs mode k s) pre post
 
   stop-splits : Splits toStop
-  stop-splits = let (pre, post, e, p, q) = probe-parted (entryOf xs) k s (heightOf xs) (lowest xs) (nonzero xs sound) (positive xs sound) (sound .ascending) in
-      (pre, post, e, record { nonzero = p .nonzero; high = p .high; passes = λ x m. stop-pass xs k s x ∙ p .passes x m; refuses = λ x m. stop-pass xs k s x ∙ p .refuses x m; stops = λ x m h. p .stops x m (sym (stop-stop xs k s x) ∙ h) })
+  stop-splits = let (pre, post, e, p, q) = probe-parted (entryOf xs) k s (heightOf xs) (lowest xs) (nonzero xs sound) (positive xs sound) (sound .ascending) in (
+    pre,
+    post,
+    e,
+    record {
+      nonzero = p .nonzero;
+      high = p .high;
+      passes = λ x m. stop-pass xs k s x ∙ p .passes x m;
+      refuses = λ x m. stop-pass xs k s x ∙
+          p .refuses x m;
+      stops = λ x m h. p .stops x m (sym (stop-stop xs k s x) ∙ h);
+    },
+  )
 
   never-splits : (mode : OnEqual) → ((o : Ord) → isHalt (turnBy mode o) ≡ false) → Splits mode
   never-splits mode never = go (part (passTest xs mode k s) (lowest xs) (pairwise-map _ _ (lowest xs) keeps (sound .ascending)))
@@ -177,7 +200,19 @@ module _ (xs : List ℕ) (sound : Sound xs) (k : List ℕ) (s : ℕ) where
           (λ e. less-equal comparePairs entries ((entryOf xs x) .key, (entryOf xs x) .number) ((entryOf xs y) .key, (entryOf xs y) .number) (k, s) h e)
 
       go : (pre : List ℕ) × (post : List ℕ) × (lowest xs ≡ pre ++ post) × All (λ x. passTest xs mode k s x ≡ true) pre × All (λ x. passTest xs mode k s x ≡ false) post → Splits mode
-      go (pre, post, e, h, g) = (pre, post, e, record { nonzero = rw e at (nonzero xs sound); high = rw e at (positive xs sound); passes = h; refuses = g; stops = λ x m f. absurd (true≢false (sym f ∙ never (probe (entryOf xs) k s x))) })
+      go (pre, post, e, h, g) = (
+        pre,
+        post,
+        e,
+        record {
+          nonzero = rw e at (nonzero xs sound);
+          high = rw e at (positive xs sound);
+          passes = h;
+          refuses = g;
+          stops = λ x m f.
+              absurd (true≢false (sym f ∙ never (probe (entryOf xs) k s x)));
+        },
+      )
 
   pub splits : (mode : OnEqual) → Splits mode
   splits toStop = stop-splits
@@ -222,7 +257,8 @@ search-sound xs sound mode k s = let (pre, post, e, p) = splits xs sound k s mod
     Parts pre post = Parted (heightOf xs) (passTest xs mode k s) (stopTest xs mode k s) pre post
 
     with-answer : (pre post : List ℕ) → lowest xs ≡ pre ++ post → Parts pre post → (r : Found) → searched xs mode k s ≡ got r → standing r ≡ first post
-        → ((x looks : ℕ) → r ≡ hit x looks → List·Memᴰ x post × (stopTest xs mode k s x ≡ true)) → ((u x looks : ℕ) (prev : List ℕ) → r ≡ ends u x looks prev → Missed xs mode k s pre post u prev) → Searched xs sound mode k s
+        → ((x looks : ℕ) → r ≡ hit x looks → List·Memᴰ x post × (stopTest xs mode k s x ≡ true)) →
+        ((u x looks : ℕ) (prev : List ℕ) → r ≡ ends u x looks prev → Missed xs mode k s pre post u prev) → Searched xs sound mode k s
     with-answer pre post e p r f g h m = record { before = pre; behind = post; split = e; passes = p .passes; refuses = p .refuses; found = r; search = f; stands = g; hits = h; misses = m }
 
     stops : (post : List ℕ) (x y : ℕ) → stopsAt (stopTest xs mode k s) post ≡ true → x ≡ first post → x ≡ y → List·Memᴰ y post × (stopTest xs mode k s y ≡ true)
@@ -232,7 +268,8 @@ search-sound xs sound mode k s = let (pre, post, e, p) = splits xs sound k s mod
     go : (pre post : List ℕ) → lowest xs ≡ pre ++ post → Parts pre post → (r : Read Found) → searched xs mode k s ≡ r
         → Right (levels - 1) (heightOf xs) (stopTest xs mode k s) pre post r → Searched xs sound mode k s
     go pre post e p (bad o) f g = absurd g
-    go pre post e p (got (hit x looks)) f g = with-answer pre post e p (hit x looks) f (g .node) (λ y l q. stops post x y (g .present) (g .node) (cc)) (λ u y l prev q. absurd (let z : _≡_ {A = ℕ} 0 1 = cc in omega arith))
+    go pre post e p (got (hit x looks)) f g =
+        with-answer pre post e p (hit x looks) f (g .node) (λ y l q. stops post x y (g .present) (g .node) (cc)) (λ u y l prev q. absurd (let z : _≡_ {A = ℕ} 0 1 = cc in omega arith))
     go pre post e p (got (ends u x looks prev)) f g = with-answer pre post e p (ends u x looks prev) f (g .after) (λ y l q. absurd (let z : _≡_ {A = ℕ} 0 1 = cc in omega arith)) (λ v y l w q.
         let a : u ≡ v = cc in let b : prev ≡ w = cc in record {
           nothing = none-stops (heightOf xs) (passTest xs mode k s) (stopTest xs mode k s) pre post p (g .absent);

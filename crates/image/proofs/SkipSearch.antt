@@ -100,26 +100,31 @@ module _ (t : ℕ) (height : ℕ → ℕ) (look : ℕ → ℕ → Read Turn) (li
     pub recorded : (l : ℕ) → level < l → l ≤ t → l < length prev → getD prev l 0 ≡ last 0 (tall height l pre)
     pub spent : looks + length rest + level < length pre + suc t
 
-module _ (t : ℕ) (height : ℕ → ℕ) (look : ℕ → ℕ → Read Turn) (link place : ℕ → ℕ → ℕ) (pass stop : ℕ → Bool) (pre post : List ℕ) (linked : Linked (suc t) height link (pre ++ post)) (parted : Parted height pass stop pre post)
+module _ (t : ℕ) (height : ℕ → ℕ) (look : ℕ → ℕ → Read Turn) (link place : ℕ → ℕ → ℕ) (pass stop : ℕ → Bool) (pre post : List ℕ)
+    (linked : Linked (suc t) height link (pre ++ post)) (parted : Parted height pass stop pre post)
     (seen : (x l : ℕ) → l ≤ t → (x ≡ 0) ⊎ (List·Memᴰ x (pre ++ post) × (l < height x)) → look x l ≡ got (turn pass stop (link x l))) where
   -- what it meets at a level once nothing is left to pass there
   front : (l : ℕ) → (turn pass stop (nextTall height l post) ≡ below) ⊎ ((turn pass stop (nextTall height l post) ≡ halt) × (nextTall height l post ≡ first post) × (stopsAt stop post ≡ true))
   front l = go (tall height l post) (tall-mem height l post)
     where
-      met : (y : ℕ) → List·Memᴰ y post → turn pass stop y ≡ cond (stop y) halt below → (b : Bool) → stop y ≡ b → (turn pass stop y ≡ below) ⊎ ((turn pass stop y ≡ halt) × (y ≡ first post) × (stopsAt stop post ≡ true))
+      met : (y : ℕ) → List·Memᴰ y post → turn pass stop y ≡ cond (stop y) halt below → (b : Bool) → stop y ≡ b
+          → (turn pass stop y ≡ below) ⊎ ((turn pass stop y ≡ halt) × (y ≡ first post) × (stopsAt stop post ≡ true))
       met y m e true f = inr (cc, parted .stops y m f, stopsAt-first stop post y m (parted .stops y m f) f)
       met y m e false f = inl (cc)
 
-      go : (ys : List ℕ) → All (λ y. List·Memᴰ y post × (l < height y)) ys → (turn pass stop (first ys) ≡ below) ⊎ ((turn pass stop (first ys) ≡ halt) × (first ys ≡ first post) × (stopsAt stop post ≡ true))
+      go : (ys : List ℕ) → All (λ y. List·Memᴰ y post × (l < height y)) ys
+          → (turn pass stop (first ys) ≡ below) ⊎ ((turn pass stop (first ys) ≡ halt) × (first ys ≡ first post) × (stopsAt stop post ≡ true))
       go [] h = inl refl
       go (y ∷ ys) h = let m = (h y here) .0 in met y m (turn-refuse pass stop y (parted .nonzero y (Memᴰ·append-right pre m)) (parted .refuses y m)) (stop y) refl
 
   -- a look says the turn that is known
-  says : {cur level looks : ℕ} {prev rest : List ℕ} {l : ℕ} {d : Turn} → State t height look link pass stop pre post cur level looks prev rest → l ≤ level → turn pass stop (link cur l) ≡ d → look cur l ≡ got d
+  says : {cur level looks : ℕ} {prev rest : List ℕ} {l : ℕ} {d : Turn} → State t height look link pass stop pre post cur level looks prev rest → l ≤ level
+      → turn pass stop (link cur l) ≡ d → look cur l ≡ got d
   says {l = l} s h e = s .seen l h ∙ ap {B = Read Turn} got e
 
   -- with nothing to pass at a level, the node in front is one of post
-  in-front : {cur level looks : ℕ} {prev rest : List ℕ} → State t height look link pass stop pre post cur level looks prev rest → tall height level rest ≡ [] → link cur level ≡ nextTall height level post
+  in-front : {cur level looks : ℕ} {prev rest : List ℕ} → State t height look link pass stop pre post cur level looks prev rest → tall height level rest ≡ []
+      → link cur level ≡ nextTall height level post
   in-front {level = level} {rest = rest} s e = s .ahead level (omega arith) ∙ rw (tall-append height level rest post, e)
 
   -- and the node that it stands on is the last of pre that has the level
@@ -127,7 +132,8 @@ module _ (t : ℕ) (height : ℕ → ℕ) (look : ℕ → ℕ → Read Turn) (li
   on-last {level = level} s e = rw e at (s .lasts level (omega arith))
 
   -- the node is recorded on the way down
-  records : {cur level looks : ℕ} {prev rest : List ℕ} → State t height look link pass stop pre post cur level looks prev rest → tall height level rest ≡ [] → (l : ℕ) → level ≤ l → l ≤ t → l < length (set prev level cur) → getD (set prev level cur) l 0 ≡ last 0 (tall height l pre)
+  records : {cur level looks : ℕ} {prev rest : List ℕ} → State t height look link pass stop pre post cur level looks prev rest → tall height level rest ≡ []
+      → (l : ℕ) → level ≤ l → l ≤ t → l < length (set prev level cur) → getD (set prev level cur) l 0 ≡ last 0 (tall height l pre)
   records {cur} {level} {prev = prev} s e l h k m = go (ℕ-discrete l level)
     where
       short : l < length prev
@@ -138,7 +144,8 @@ module _ (t : ℕ) (height : ℕ → ℕ) (look : ℕ → ℕ → Read Turn) (li
       go (no f) = getD-set-other prev level l cur 0 f ∙ s .recorded l (omega arith) k short
 
   -- one step onward: rest is c, then x, then d
-  onward-state : {cur level looks : ℕ} {prev rest : List ℕ} → State t height look link pass stop pre post cur level looks prev rest → (c : List ℕ) (x : ℕ) (d : List ℕ) → rest ≡ c ++ (x ∷ d) → level < height x → State t height look link pass stop pre post x level (suc looks) prev d
+  onward-state : {cur level looks : ℕ} {prev rest : List ℕ} → State t height look link pass stop pre post cur level looks prev rest
+      → (c : List ℕ) (x : ℕ) (d : List ℕ) → rest ≡ c ++ (x ∷ d) → level < height x → State t height look link pass stop pre post x level (suc looks) prev d
   onward-state {cur} {level} {looks} {prev} {rest} s c x d e h = record {
     done = s .done ++ (c ++ (x ∷ []));
     parts = s .parts ∙ rw e (simp append-assoc);
@@ -150,7 +157,8 @@ module _ (t : ℕ) (height : ℕ → ℕ) (look : ℕ → ℕ → Read Turn) (li
     spent = omega (arith, ap length e, length-append c (x ∷ d), s .spent);
   }
 
-  down-state : {cur low looks : ℕ} {prev rest : List ℕ} → State t height look link pass stop pre post cur (suc low) looks prev rest → tall height (suc low) rest ≡ [] → State t height look link pass stop pre post cur low (suc looks) (set prev (suc low) cur) rest
+  down-state : {cur low looks : ℕ} {prev rest : List ℕ} → State t height look link pass stop pre post cur (suc low) looks prev rest
+      → tall height (suc low) rest ≡ [] → State t height look link pass stop pre post cur low (suc looks) (set prev (suc low) cur) rest
   down-state {cur} {low} s e = record {
     done = s .done;
     parts = s .parts;
@@ -163,8 +171,10 @@ module _ (t : ℕ) (height : ℕ → ℕ) (look : ℕ → ℕ → Read Turn) (li
   }
 
   -- down from a level at which nothing is left to pass; what is found from the level below is given
-  down-right : (n cur level looks : ℕ) (prev rest : List ℕ) → State t height look link pass stop pre post cur level looks prev rest → tall height level rest ≡ [] → turn pass stop (link cur level) ≡ below
-      → ((low : ℕ) → suc low ≡ level → State t height look link pass stop pre post cur low (suc looks) (set prev level cur) rest → Right t height stop pre post (find look link place n cur low (suc looks) (set prev level cur)))
+  down-right : (n cur level looks : ℕ) (prev rest : List ℕ) → State t height look link pass stop pre post cur level looks prev rest → tall height level rest ≡ []
+      → turn pass stop (link cur level) ≡ below
+      → ((low : ℕ) → suc low ≡ level → State t height look link pass stop pre post cur low (suc looks) (set prev level cur) rest → Right t height stop pre post
+      (find look link place n cur low (suc looks) (set prev level cur)))
       → Right t height stop pre post (find look link place (suc n) cur level looks prev)
   down-right n cur zero looks prev rest s e b next = rw (find-ends look link place n cur looks prev (says s (omega arith) b)) (record {
     absent = stopsAt-below pass stop post (all-right pre post (parted .nonzero)) (parted .refuses) (rw (← meets) b);
@@ -178,17 +188,22 @@ module _ (t : ℕ) (height : ℕ → ℕ) (look : ℕ → ℕ → Read Turn) (li
       meets = in-front s e ∙ ap first (tall-all height 0 post (all-right pre post (parted .high)))
   down-right n cur (suc low) looks prev rest s e b next = rw (find-down look link place n cur low looks prev (says s (omega arith) b)) (next low refl (down-state s e))
 
-  pub search-right : (n cur level looks : ℕ) (prev rest : List ℕ) → State t height look link pass stop pre post cur level looks prev rest → length rest + level < n → Right t height stop pre post (find look link place n cur level looks prev)
+  pub search-right : (n cur level looks : ℕ) (prev rest : List ℕ) → State t height look link pass stop pre post cur level looks prev rest
+      → length rest + level < n → Right t height stop pre post (find look link place n cur level looks prev)
   search-right zero cur level looks prev rest s h = absurd (omega arith)
   search-right (suc n) cur level looks prev rest s h = go (search-right n) (tall-split height level rest) (front level)
     where
-      go : ((cur level looks : ℕ) (prev rest : List ℕ) → State t height look link pass stop pre post cur level looks prev rest → length rest + level < n → Right t height stop pre post (find look link place n cur level looks prev))
+      go : ((cur level looks : ℕ) (prev rest : List ℕ) → State t height look link pass stop pre post cur level looks prev rest → length rest + level < n → Right t
+          height stop pre post (find look link place n cur level looks prev))
           → (tall height level rest ≡ []) ⊎ ((a : List ℕ) × (x : ℕ) × (b : List ℕ) × (rest ≡ a ++ (x ∷ b)) × (tall height level a ≡ []) × (level < height x))
           → (turn pass stop (nextTall height level post) ≡ below) ⊎ ((turn pass stop (nextTall height level post) ≡ halt) × (nextTall height level post ≡ first post) × (stopsAt stop post ≡ true))
           → Right t height stop pre post (find look link place (suc n) cur level looks prev)
       go ih (inl e) (inl b) = down-right n cur level looks prev rest s e (rw (in-front s e) b) (λ low p s2. ih cur low (suc looks) (set prev level cur) rest s2 (omega arith))
-      go ih (inl e) (inr (p, q, r)) = rw (find-halt look link place n cur level looks prev (says s (omega arith) (rw (in-front s e) p))) (record { present = r; node = in-front s e ∙ q; bound = omega (arith, s .spent) })
-      go ih (inr (c, x, d, e, q, k)) f = rw (find-onward look link place n cur level looks prev (says s (omega arith) (rw meets passed)), meets) (ih x level (suc looks) prev d (onward-state s c x d e k) (omega (arith, ap length e, length-append c (x ∷ d))))
+      go ih (inl e) (inr (p, q, r)) =
+          rw (find-halt look link place n cur level looks prev (says s (omega arith) (rw (in-front s e) p))) (record { present = r; node = in-front s e ∙ q; bound = omega (arith, s .spent) })
+      go ih (inr (c, x, d, e, q, k)) f =
+          rw (find-onward look link place n cur level looks prev (says s (omega arith) (rw meets passed)), meets)
+          (ih x level (suc looks) prev d (onward-state s c x d e k) (omega (arith, ap length e, length-append c (x ∷ d))))
         where
           meets : link cur level ≡ x
           meets = s .ahead level (omega arith) ∙ rw (e, append-assoc c (x ∷ d) post, tall-append height level c (x ∷ (d ++ post)), q, tall-keep height level x (d ++ post) k)

@@ -43,7 +43,8 @@ module _ (xs : List ℕ) (mode : OnEqual) (k : List ℕ) (s : ℕ) where
   -- a search stops at no empty link
   look-some : (cur level : ℕ) → look xs mode k s cur level ≡ got halt → 1 ≤ linkOf xs cur level
   unfolding look
-  look-some cur level e = go (linkOf xs cur level) ((check-got (leb (linkOf xs cur level) (count xs)) (linkPlace xs cur level) (meet xs mode k s level (linkPlace xs cur level) (linkOf xs cur level)) halt e) .1)
+  look-some cur level e =
+      go (linkOf xs cur level) ((check-got (leb (linkOf xs cur level) (count xs)) (linkPlace xs cur level) (meet xs mode k s level (linkPlace xs cur level) (linkOf xs cur level)) halt e) .1)
     where
       go : (x : ℕ) → meet xs mode k s level (linkPlace xs cur level) x ≡ got halt → 1 ≤ x
       go zero f = let z : below ≡ halt = got-same f in let n : _≡_ {A = ℕ} 0 1 = cc in absurd (omega arith)

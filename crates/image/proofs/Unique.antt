@@ -94,7 +94,10 @@ module _ (xs ys : List ℕ) (s : Sound xs) (t : Sound ys) (bx : Bytes xs) (by : 
       go (no z) (no y) (no x) (no w) = word-unique xs ys (16 + 4 * ((q - 16) / 4)) bx by (same-head ((q - 16) / 4) (omega arith)) q (omega arith) (omega arith)
 
   in-slots : (q : ℕ) → length xs - 4 * count xs ≤ q → q < length xs → getD xs q 0 ≡ getD ys q 0
-  in-slots q a b = word-unique xs ys (slotPlace xs ((length xs - 1 - q) / 4 + 1)) bx by (same-slot ((length xs - 1 - q) / 4 + 1) (omega arith) (omega (arith, s .header .high)) ∙ rw same-length) q (omega (arith, s .header .high)) (omega (arith, s .header .high))
+  in-slots q a b =
+      word-unique xs ys (slotPlace xs ((length xs - 1 - q) / 4 + 1)) bx by
+      (same-slot ((length xs - 1 - q) / 4 + 1) (omega arith) (omega (arith, s .header .high)) ∙ rw same-length) q (omega (arith, s .header .high))
+      (omega (arith, s .header .high))
 
   in-node : (i q : ℕ) → 1 ≤ i → i ≤ count xs → slot xs i ≤ q → q < slot xs i + sizeAt xs i → getD xs q 0 ≡ getD ys q 0
   unfolding linkOf
@@ -104,7 +107,8 @@ module _ (xs ys : List ℕ) (s : Sound xs) (t : Sound ys) (bx : Bytes xs) (by : 
       node-ys = rw (same-slot i p r, same-height i p r, same-entry i p r) (t .reads i p (omega arith))
 
       here-link : (l : ℕ) → l < heightOf xs i → word xs (slot xs i + 8 + 4 * l) ≡ word ys (slot xs i + 8 + 4 * l)
-      here-link l k = ap (λ (a : ℕ). word xs (a + 4 * l)) (sym (links-node xs i p)) ∙ same-link i l p r k ∙ ap (λ (a : ℕ). word ys (a + 4 * l)) (links-node ys i p ∙ ap (λ (a : ℕ). a + 8) (sym (same-slot i p r)))
+      here-link l k =
+          ap (λ (a : ℕ). word xs (a + 4 * l)) (sym (links-node xs i p)) ∙ same-link i l p r k ∙ ap (λ (a : ℕ). word ys (a + 4 * l)) (links-node ys i p ∙ ap (λ (a : ℕ). a + 8) (sym (same-slot i p r)))
 
       go : Dec (q < slot xs i + 4) → Dec (q < slot xs i + 8) → Dec (q < entryPlace (slot xs i) (heightOf xs i)) → getD xs q 0 ≡ getD ys q 0
       go (yes c) _ _ = word-unique xs ys (slot xs i) bx by ((s .reads i p r) .height-here ∙ sym (node-ys .height-here)) q a c
@@ -117,7 +121,8 @@ module _ (xs ys : List ℕ) (s : Sound xs) (t : Sound ys) (bx : Bytes xs) (by : 
   node-of zero q h a b = absurd (omega (arith, s .begins))
   node-of (suc k) q h a b = go (decLt q (placeOf xs (suc k))) (node-of k q (omega arith) a)
     where
-      go : Dec (q < placeOf xs (suc k)) → (q < placeOf xs (suc k) → (i : ℕ) × (1 ≤ i) × (i ≤ count xs) × (slot xs i ≤ q) × (q < slot xs i + sizeAt xs i)) → (i : ℕ) × (1 ≤ i) × (i ≤ count xs) × (slot xs i ≤ q) × (q < slot xs i + sizeAt xs i)
+      go : Dec (q < placeOf xs (suc k)) → (q < placeOf xs (suc k) → (i : ℕ) × (1 ≤ i) × (i ≤ count xs) × (slot xs i ≤ q) × (q < slot xs i + sizeAt xs i))
+          → (i : ℕ) × (1 ≤ i) × (i ≤ count xs) × (slot xs i ≤ q) × (q < slot xs i + sizeAt xs i)
       go (yes c) ih = ih c
       go (no n) ih = (suc k, omega arith, h, omega (arith, place-slot xs (suc k) h), omega (arith, s .follows (suc k) (omega arith) h))
 
@@ -133,7 +138,8 @@ module _ (xs ys : List ℕ) (s : Sound xs) (t : Sound ys) (bx : Bytes xs) (by : 
 
 -- so the outcome of an addition is the one sound image, of the same length, whose old nodes keep height and entry and whose last node is the new one
 pub addition-unique : (xs : List ℕ) (e : Entry) (h : ℕ) (ys zs : List ℕ) → Added xs e h ys → Sound zs → Bytes ys → Bytes zs → length zs ≡ length xs → count zs ≡ suc (count xs)
-    → ((i : ℕ) → 1 ≤ i → i ≤ count xs → heightOf zs i ≡ heightOf xs i) → ((i : ℕ) → 1 ≤ i → i ≤ count xs → entryOf zs i ≡ entryOf xs i) → heightOf zs (suc (count xs)) ≡ h → entryOf zs (suc (count xs)) ≡ e
+    → ((i : ℕ) → 1 ≤ i → i ≤ count xs → heightOf zs i ≡ heightOf xs i) → ((i : ℕ) → 1 ≤ i → i ≤ count xs → entryOf zs i ≡ entryOf xs i) → heightOf zs
+    (suc (count xs)) ≡ h → entryOf zs (suc (count xs)) ≡ e
     → (q : ℕ) → q < length ys → (free ys ≤ q → q < length ys - 4 * count ys → ⊥) → getD ys q 0 ≡ getD zs q 0
 addition-unique xs e h ys zs a t by bz len one hs es h1 e1 = sound-unique ys zs (a .sound) t by bz (a .length-same ∙ sym len) (a .one-more ∙ sym one)
     (λ i p r. height i p (ℕ-discrete i (suc (count xs))) r) (λ i p r. entry i p (ℕ-discrete i (suc (count xs))) r)

@@ -176,11 +176,13 @@ unfolding putWords
 putWords-bytes xs place value zero b i = b i
 putWords-bytes xs place value (suc h) b i = putWord-bytes (putWords xs place value h) (place h) (value h) (putWords-bytes xs place value h b) i
 
-pub putWords-written : (xs : List ℕ) (place value : ℕ → ℕ) (h : ℕ) → ((l m : ℕ) → l < h → m < h → l ≢ m → Apart (place l) (place m)) → ((l : ℕ) → l < h → place l + 4 ≤ length xs) → ((l : ℕ) → l < h → value l < 256 ^ 4)
+pub putWords-written : (xs : List ℕ) (place value : ℕ → ℕ) (h : ℕ) → ((l m : ℕ) → l < h → m < h → l ≢ m → Apart (place l) (place m))
+    → ((l : ℕ) → l < h → place l + 4 ≤ length xs) → ((l : ℕ) → l < h → value l < 256 ^ 4)
     → (l : ℕ) → l < h → word (putWords xs place value h) (place l) ≡ value l
 unfolding putWords
 putWords-written xs place value zero a b c l k = absurd (omega arith)
-putWords-written xs place value (suc h) a b c l k = go (ℕ-discrete l h) (putWords-written xs place value h (λ x y p q. a x y (omega arith) (omega arith)) (λ x p. b x (omega arith)) (λ x p. c x (omega arith)) l)
+putWords-written xs place value (suc h) a b c l k =
+    go (ℕ-discrete l h) (putWords-written xs place value h (λ x y p q. a x y (omega arith) (omega arith)) (λ x p. b x (omega arith)) (λ x p. c x (omega arith)) l)
   where
     go : Dec (l ≡ h) → (l < h → word (putWords xs place value h) (place l) ≡ value l) → word (putWord (putWords xs place value h) (place h) (value h)) (place l) ≡ value l
     go (yes e) ih = rw e (word-written (putWords xs place value h) (place h) (value h) (c h (omega arith)) (omega (arith, b h (omega arith), length-putWords xs place value h)))

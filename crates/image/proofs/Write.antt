@@ -13,7 +13,9 @@ use Rattle.image.specs.Words.{Bytes, Same, Holds, Apart, word, putWord, 
 use Rattle.image.specs.Entries.{encode}
 use Rattle.image.specs.Nodes.{entryPlace, sizeOf}
 use Rattle.image.specs.Add.{nodeWritten, written}
-use Rattle.image.proofs.Words.{holds-same, sets-out, sets-holds, sets-bytes, word-written, word-kept, length-putWord, putWord-out, putWord-bytes, length-putWords, putWords-out, putWords-bytes, putWords-written, putWords-kept, word-beside, word-same, putWord-behind, putWords-behind, putWords-ext, sets-behind}
+use Rattle.image.proofs.Words.{holds-same, sets-out, sets-holds, sets-bytes, word-written, word-kept, length-putWord, putWord-out, putWord-bytes}
+use Rattle.image.proofs.Words.{length-putWords, putWords-out, putWords-bytes, putWords-written, putWords-kept, word-beside, word-same, putWord-behind}
+use Rattle.image.proofs.Words.{putWords-behind, putWords-ext, sets-behind}
 
 module _ (xs : List ℕ) (o h : ℕ) (e : Entry) (link : ℕ → ℕ) where
   pub length-node : length (nodeWritten xs o h e link) ≡ length xs
@@ -82,7 +84,8 @@ pub record Written (xs : List ℕ) (n o h : ℕ) (e : Entry) (link place : ℕ �
   pub slot-is : word ys (length xs - 4 * suc n) ≡ o
   pub node-is : NodeWritten xs o h e link ys
   pub joined : (l : ℕ) → l < h → word ys (place l) ≡ suc n
-  pub kept : (i : ℕ) → (4 ≤ i → i < 12 → ⊥) → (o ≤ i → i < o + sizeOf h e → ⊥) → (length xs - 4 * suc n ≤ i → i < length xs - 4 * n → ⊥) → ((l : ℕ) → l < h → place l ≤ i → i < place l + 4 → ⊥) → getD ys i 0 ≡ getD xs i 0
+  pub kept : (i : ℕ) → (4 ≤ i → i < 12 → ⊥) → (o ≤ i → i < o + sizeOf h e → ⊥) → (length xs - 4 * suc n ≤ i → i < length xs - 4 * n → ⊥)
+      → ((l : ℕ) → l < h → place l ≤ i → i < place l + 4 → ⊥) → getD ys i 0 ≡ getD xs i 0
 
 module _ (xs : List ℕ) (n o h : ℕ) (e : Entry) (link place : ℕ → ℕ) (f : Fits xs n o h e link place) where
   w3 : List ℕ
@@ -152,12 +155,14 @@ module _ (xs : List ℕ) (n o h : ℕ) (e : Entry) (link place : ℕ → ℕ) (f
 
 pub written-bytes : (xs : List ℕ) (n o h : ℕ) (e : Entry) (link place : ℕ → ℕ) → Bytes (encode e) → Bytes xs → Bytes (written xs n o h e link place)
 unfolding written
-written-bytes xs n o h e link place c b = putWord-bytes _ 4 (suc n) (putWords-bytes _ place (λ l. suc n) h (putWord-bytes _ (length xs - 4 * suc n) o (node-bytes _ o h e link c (putWord-bytes xs 8 (o + sizeOf h e) b))))
+written-bytes xs n o h e link place c b =
+    putWord-bytes _ 4 (suc n) (putWords-bytes _ place (λ l. suc n) h (putWord-bytes _ (length xs - 4 * suc n) o (node-bytes _ o h e link c (putWord-bytes xs 8 (o + sizeOf h e) b))))
 
 -- on any list: the length is kept, and every byte outside the places of the writes
 pub written-length : (xs : List ℕ) (n o h : ℕ) (e : Entry) (link place : ℕ → ℕ) → length (written xs n o h e link place) ≡ length xs
 unfolding written
-written-length xs n o h e link place = length-putWord _ 4 (suc n) ∙ length-putWords _ place (λ l. suc n) h ∙ length-putWord _ (length xs - 4 * suc n) o ∙ length-node _ o h e link ∙ length-putWord xs 8 (o + sizeOf h e)
+written-length xs n o h e link place =
+    length-putWord _ 4 (suc n) ∙ length-putWords _ place (λ l. suc n) h ∙ length-putWord _ (length xs - 4 * suc n) o ∙ length-node _ o h e link ∙ length-putWord xs 8 (o + sizeOf h e)
 
 pub written-kept : (xs : List ℕ) (n o h : ℕ) (e : Entry) (link place : ℕ → ℕ) (i : ℕ) → o + sizeOf h e + 4 ≤ length xs - 4 * n → (4 ≤ i → i < 12 → ⊥) → (o ≤ i → i < o + sizeOf h e → ⊥)
     → (length xs - 4 * suc n ≤ i → i < length xs - 4 * n → ⊥) → ((l : ℕ) → l < h → place l ≤ i → i < place l + 4 → ⊥) → getD (written xs n o h e link place) i 0 ≡ getD xs i 0
@@ -172,7 +177,9 @@ unfolding nodeWritten
 node-behind ps ys h e link =
     ap (λ (r : List ℕ). sets (putWords (putWord r (length ps + 4) (length (encode e))) (λ l. length ps + 8 + 4 * l) link h) (entryPlace (length ps) h) (encode e)) first
     ∙ ap (λ (r : List ℕ). sets (putWords r (λ l. length ps + 8 + 4 * l) link h) (entryPlace (length ps) h) (encode e)) (putWord-behind ps (putWord ys 0 h) 4 (length (encode e)))
-    ∙ ap (λ (r : List ℕ). sets r (entryPlace (length ps) h) (encode e)) (putWords-ext (ps ++ w2) (λ l. length ps + 8 + 4 * l) (λ l. length ps + (8 + 4 * l)) link link h (λ l k. omega arith) (λ l k. refl) ∙ putWords-behind ps w2 (λ l. 8 + 4 * l) link h)
+    ∙ ap (λ (r : List ℕ). sets r (entryPlace (length ps) h) (encode e))
+    (putWords-ext (ps ++ w2) (λ l. length ps + 8 + 4 * l) (λ l. length ps + (8 + 4 * l)) link link h (λ l k. omega arith) (λ l k. refl) ∙ putWords-behind ps w2
+    (λ l. 8 + 4 * l) link h)
     ∙ ap (λ (o : ℕ). sets (ps ++ putWords w2 (λ l. 8 + 4 * l) link h) o (encode e)) place
     ∙ sets-behind ps (putWords w2 (λ l. 8 + 4 * l) link h) (entryPlace 0 h) (encode e)
   where

@@ -58,15 +58,15 @@ Leads xs previous (on i) d = Foremost (λ e f. order f e) (λ e. isLess (order e
 -- ---- on any bytes
 
 -- the entry of node j lies onward of where a move started
-abbrev pub Ahead : List ℕ → EntryMove → Cursor → ℕ → Type 0
-Ahead xs first c j = Unit
-Ahead xs (seek k n) c j = isLess (compareEntries ((entryOf xs j) .key) ((entryOf xs j) .number) k n) ≡ false
-Ahead xs next nowhere j = Unit
-Ahead xs next (on i) j = order (entryOf xs i) (entryOf xs j) ≡ less
-Ahead xs previous nowhere j = ⊥
-Ahead xs previous (on i) j = order (entryOf xs j) (entryOf xs i) ≡ less
+abbrev pub EntryAhead : List ℕ → EntryMove → Cursor → ℕ → Type 0
+EntryAhead xs first c j = Unit
+EntryAhead xs (seek k n) c j = isLess (compareEntries ((entryOf xs j) .key) ((entryOf xs j) .number) k n) ≡ false
+EntryAhead xs next nowhere j = Unit
+EntryAhead xs next (on i) j = order (entryOf xs i) (entryOf xs j) ≡ less
+EntryAhead xs previous nowhere j = ⊥
+EntryAhead xs previous (on i) j = order (entryOf xs j) (entryOf xs i) ≡ less
 
 -- where a move of the entry cursor may end: nowhere, or on a node that can be read whole and lies onward
-abbrev pub Lands : List ℕ → EntryMove → Cursor → Cursor → Type 0
-Lands xs m c nowhere = Unit
-Lands xs m c (on j) = IsNode xs j × (viewRefusal xs (on j) ≡ 0) × Ahead xs m c j
+abbrev pub EntryLands : List ℕ → EntryMove → Cursor → Cursor → Type 0
+EntryLands xs m c nowhere = Unit
+EntryLands xs m c (on j) = IsNode xs j × (viewRefusal xs (on j) ≡ 0) × EntryAhead xs m c j

@@ -42,7 +42,11 @@ ended len n r at ps e h k = rw e (record { spot = h; places = k })
 -- where a search begins
 pub begin : (len : ℕ) (f : Frame) → Within len f
     → Looking len (f .count) (f .count + 12) (replicate 12 0) 0 16 11 0
-begin len f w = let a = w .low in let b = w .high in let c = w .few in record { inside = omega arith; low = omega arith; few = omega arith; bound = refl; small = c; back = omega arith; kept = no-places len (omega arith) }
+begin len f w =
+    let a = w .low in
+    let b = w .high in
+    let c = w .few in
+    record { inside = omega arith; low = omega arith; few = omega arith; bound = refl; small = c; back = omega arith; kept = no-places len (omega arith) }
 
 -- a turn at a node whose links stand inside
 pub turn-fits : (len level x links : ℕ) (r : TurnRead) → LinksFrom links r → links + 4 * level + 4 ≤ len → 1 ≤ x → TurnFits len level x r

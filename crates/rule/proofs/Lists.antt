@@ -4,7 +4,8 @@ use native.Mathlib.Omega.{arith}
 use native.Mathlib.Decide.{ℕ-discrete}
 use mathlib.Core.Path.{_≡_, refl, sym, ap, subst, _∙_}
 use mathlib.Core.Logic.{_⊎_, inl, inr, ⊎-elim}
-use mathlib.Core.List.{List, [], _∷_, _++_, map, List·Memᴰ, List·Memᴰ·head, List·Memᴰ·tail, List·Memᴰ·not-nil, List·Memᴰ·cases-cons, Memᴰ·cast, Memᴰ·append-left, Memᴰ·append-right, List·Memᴰ·append-cases}
+use mathlib.Core.List.{List, [], _∷_, _++_, map, List·Memᴰ, List·Memᴰ·head, List·Memᴰ·tail, List·Memᴰ·not-nil, List·Memᴰ·cases-cons, Memᴰ·cast, Memᴰ·append-left}
+use mathlib.Core.List.{Memᴰ·append-right, List·Memᴰ·append-cases}
 use mathlib.Core.Bool.{Bool, true, false, true≢false}
 use lib.ListN.{length, length-append}
 use Rattle.rule.specs.Lists.{cond, both, keep, All, Pairwise}
@@ -59,7 +60,8 @@ module _ {ℓ} {A : Type ℓ} where
   pairwise-insert R (y ∷ xs) x ys p h k = (all-append xs (x ∷ ys) (all-left xs ys (p .0)) (all-cons (h y here) (all-right xs ys (p .0))), pairwise-insert R xs x ys (p .1) (all-tail h) k)
 
   -- a test that no member passes after one that fails it parts the list in two
-  pub part : (pass : A → Bool) (xs : List A) → Pairwise (λ x y. pass y ≡ true → pass x ≡ true) xs → (pre : List A) × (post : List A) × (xs ≡ pre ++ post) × All (λ x. pass x ≡ true) pre × All (λ x. pass x ≡ false) post
+  pub part : (pass : A → Bool) (xs : List A) → Pairwise (λ x y. pass y ≡ true → pass x ≡ true) xs
+      → (pre : List A) × (post : List A) × (xs ≡ pre ++ post) × All (λ x. pass x ≡ true) pre × All (λ x. pass x ≡ false) post
   part pass [] p = ([], [], refl, all-nil _, all-nil _)
   part pass (x ∷ xs) p = go (pass x) refl (part pass xs (p .1))
     where

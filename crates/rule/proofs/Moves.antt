@@ -109,7 +109,9 @@ module _ (cmp : List ℕ → List ℕ → Ord) (o : Order (List ℕ) cmp) where
 -- a later entry of an ascending list has no lesser key
 pub later-key : (e f : Entry) → order e f ≡ less → isLess (compareKeys (f .key) (e .key)) ≡ false
 unfolding compareEntries
-later-key e f h = ⊎-elim (λ l. rw (less-greater compareKeys keys (e .key) (f .key) l)) (λ q. rw (keys .eq (e .key) (f .key) (q .0), keys .same (f .key))) (then-less (compareKeys (e .key) (f .key)) (compareNumbers (f .number) (e .number)) h)
+later-key e f h =
+    ⊎-elim (λ l. rw (less-greater compareKeys keys (e .key) (f .key) l)) (λ q. rw (keys .eq (e .key) (f .key) (q .0), keys .same (f .key)))
+    (then-less (compareKeys (e .key) (f .key)) (compareNumbers (f .number) (e .number)) h)
 
 -- every move ends on the same key
 pub same-target : (m : Move) (s : ℕ) (c : Maybe (List ℕ)) (es fs : List Entry) → Agree s es fs → Single s es → target m s c es ≡ target m s c fs

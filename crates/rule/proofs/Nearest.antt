@@ -111,10 +111,20 @@ remaining-less p q f k x y (d ∷ es) (e, m, r) = go (List·Memᴰ·cases-cons m
 -- for the table below: in an ascending list the next key behind a cut is that of the first entry which the cut admits, upward, and of the last one, downward
 module _ (p : List ℕ → Bool) (lo : List Entry) (e : Entry) (hi : List Entry) (asc : Ascending (lo ++ (e ∷ hi))) (h : p (e .key) ≡ true) where
   pub least-front : All (λ f. p (f .key) ≡ false) lo → Least compareKeys p (lo ++ (e ∷ hi)) (some (e .key))
-  least-front n = ((e, Memᴰ·append-right lo here, refl), h, all-append lo (e ∷ hi) (λ f m q. absurd (true≢false (sym q ∙ n f m))) (all-cons (λ _. rw (keys .same (e .key))) (λ f m _. later-key e f ((pairwise-middle _ lo e hi asc) .1 f m))))
+  least-front n = (
+    (e, Memᴰ·append-right lo here, refl),
+    h,
+    all-append lo (e ∷ hi) (λ f m q. absurd (true≢false (sym q ∙ n f m)))
+        (all-cons (λ _. rw (keys .same (e .key))) (λ f m _. later-key e f ((pairwise-middle _ lo e hi asc) .1 f m))),
+  )
 
   pub least-back : All (λ f. p (f .key) ≡ false) hi → Least (λ a b. compareKeys b a) p (lo ++ (e ∷ hi)) (some (e .key))
-  least-back n = ((e, Memᴰ·append-right lo here, refl), h, all-append lo (e ∷ hi) (λ f m _. later-key f e ((pairwise-middle _ lo e hi asc) .0 f m)) (all-cons (λ _. rw (keys .same (e .key))) (λ f m q. absurd (true≢false (sym q ∙ n f m)))))
+  least-back n = (
+    (e, Memᴰ·append-right lo here, refl),
+    h,
+    all-append lo (e ∷ hi) (λ f m _. later-key f e ((pairwise-middle _ lo e hi asc) .0 f m))
+        (all-cons (λ _. rw (keys .same (e .key))) (λ f m q. absurd (true≢false (sym q ∙ n f m)))),
+  )
 
 -- no entry is admitted
 pub least-nothing : (cmp : List ℕ → List ℕ → Ord) (p : List ℕ → Bool) (es : List Entry) → All (λ f. p (f .key) ≡ false) es → Least cmp p es none

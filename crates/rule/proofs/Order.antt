@@ -137,7 +137,9 @@ entries = record {
   same = λ e. rw (keys .same (e .0), numbers .same (e .1));
   eq = λ e f h. let t = then-equal (compareKeys (e .0) (f .0)) (compareNumbers (f .1) (e .1)) h in λ i. (keys .eq (e .0) (f .0) (t .0) i, sym (numbers .eq (f .1) (e .1) (t .1)) i);
   flips = λ e f. ap₂ then (keys .flips (e .0) (f .0)) (numbers .flips (f .1) (e .1)) ∙ sym (then-flip (compareKeys (e .0) (f .0)) (compareNumbers (f .1) (e .1)));
-  trans = λ e f g. then-trans compareKeys keys (e .0) (f .0) (g .0) (compareNumbers (f .1) (e .1)) (compareNumbers (g .1) (f .1)) (compareNumbers (g .1) (e .1)) (λ p q. numbers .trans (g .1) (f .1) (e .1) q p);
+  trans =
+      λ e f g. then-trans compareKeys keys (e .0) (f .0) (g .0) (compareNumbers (f .1) (e .1)) (compareNumbers (g .1) (f .1)) (compareNumbers (g .1) (e .1))
+      (λ p q. numbers .trans (g .1) (f .1) (e .1) q p);
 }
 
 -- entries of one key are ordered by their numbers, from the top

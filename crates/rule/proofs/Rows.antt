@@ -106,10 +106,16 @@ module _ (k : List ℕ) (s : ℕ) where
     where
       go : (o : Ord) → compareKeys (e .key) k ≡ o → Newest k s (e ∷ es) (cond (isEqual o) (some e) none)
       go less p = absurd (true≢false (rw p at (h e here)))
-      go equal p = (here, record { key = keys .eq (e .key) k p; number = entries-not-less-number (e .key) (e .number) k s (keys .eq (e .key) k p) (h e here) }, all-cons (λ _. le-refl _) (λ f m q. omega (arith, entries-less-number (e .key) (e .number) (f .key) (f .number) (keys .eq (e .key) k p ∙ sym (q .key)) (a .0 f m))))
+      go equal p = (
+        here,
+        record { key = keys .eq (e .key) k p; number = entries-not-less-number (e .key) (e .number) k s (keys .eq (e .key) k p) (h e here) },
+        all-cons
+            (λ _. le-refl _) (λ f m q. omega (arith, entries-less-number (e .key) (e .number) (f .key) (f .number) (keys .eq (e .key) k p ∙ sym (q .key)) (a .0 f m))),
+      )
       go greater p = all-cons (λ q. greater-not-eq compareKeys keys (e .key) k p (q .key)) (λ f m q. false≢true (ap isLess (rw (q .key, p) at (a .0 f m))))
 
-  pub newest-front : (lo hi : List Entry) → Ascending (lo ++ hi) → All (λ e. isLess (compareEntries (e .key) (e .number) k s) ≡ true) lo → All (λ e. isLess (compareEntries (e .key) (e .number) k s) ≡ false) hi → newest k s (lo ++ hi) ≡ front k hi
+  pub newest-front : (lo hi : List Entry) → Ascending (lo ++ hi) → All (λ e. isLess (compareEntries (e .key) (e .number) k s) ≡ true) lo
+      → All (λ e. isLess (compareEntries (e .key) (e .number) k s) ≡ false) hi → newest k s (lo ++ hi) ≡ front k hi
   newest-front lo hi a l h = newest-agree k s (lo ++ hi) (lo ++ hi) (λ e _. (λ m. m, λ m. m)) (ascending-single s (lo ++ hi) a) (newest k s (lo ++ hi)) (front k hi) (newest-is k s (lo ++ hi))
       (newest-skip lo hi (front k hi) (λ e m. less-unfit e (less-true _ (l e m))) (front-newest hi (pairwise-right _ lo hi a) h))
 

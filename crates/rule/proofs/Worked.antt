@@ -32,7 +32,9 @@ unfolding compareKeys
 hidden = refl
 
 -- seek stops at its key, next and previous leave it, and both pass over a deletion
-pub passed-over : (target (seek (7 ∷ [])) 9 none (entry 7 1 1 10 ∷ entry 8 1 1 20 ∷ []) ≡ some (7 ∷ [])) × (target next 9 (some (6 ∷ [])) (entry 6 1 1 1 ∷ entry 7 2 0 1 ∷ entry 8 3 1 1 ∷ []) ≡ some (8 ∷ []))
-    × (target previous 9 (some (8 ∷ [])) (entry 6 1 1 1 ∷ entry 7 2 0 1 ∷ entry 8 3 1 1 ∷ []) ≡ some (6 ∷ [])) × (target previous 9 none (entry 6 1 1 1 ∷ []) ≡ none) × (target first 9 (some (8 ∷ [])) (entry 6 1 1 1 ∷ []) ≡ some (6 ∷ []))
+pub passed-over : (target (seek (7 ∷ [])) 9 none (entry 7 1 1 10 ∷ entry 8 1 1 20 ∷ []) ≡ some (7 ∷ [])) ×
+    (target next 9 (some (6 ∷ [])) (entry 6 1 1 1 ∷ entry 7 2 0 1 ∷ entry 8 3 1 1 ∷ []) ≡ some (8 ∷ []))
+    × (target previous 9 (some (8 ∷ [])) (entry 6 1 1 1 ∷ entry 7 2 0 1 ∷ entry 8 3 1 1 ∷ []) ≡ some (6 ∷ [])) ×
+    (target previous 9 none (entry 6 1 1 1 ∷ []) ≡ none) × (target first 9 (some (8 ∷ [])) (entry 6 1 1 1 ∷ []) ≡ some (6 ∷ []))
 unfolding compareKeys
 passed-over = (refl, refl, refl, refl, refl)

@@ -21,7 +21,7 @@ use Rattle.table.specs.Memtable.{freshenedAs, Freshens, addedAs, Adds, l
 use Rattle.table.specs.EntryViews.{spanAs, Spans}
 use Rattle.table.specs.Presence.{presenceAs, Contains, ShowsRow}
 use Rattle.table.specs.Nodes.{Framed}
-use Rattle.table.specs.MemtableIter.{cursorIs, Tested, movedAs, HandsBack, Moves}
+use Rattle.table.specs.MemtableIter.{cursorIs, Tested, movedAs, HandsBack, MovesEntry}
 use Rattle.table.specs.declared.nodes.Frame.{Frame}
 use Rattle.table.specs.Check.{Checked}
 use Rattle.table.specs.Questions.{cutOf, hitAs, Nears, newestAs, TellsNewest}
@@ -196,7 +196,7 @@ contains-one xs k n kind r q a b = recovered presenceAs presenceFrom back r q (a
     back (presence.NotHeld looks) = refl
     back (presence.Refused q) = ap {B = Presence} presence.Refused (refusal-back q)
 
-pub move-one : (xs : List ℕ) (m : EntryMove) (c : EntryCursor) (r q : EntryMoved) → Moves xs m c r → Moves xs m c q → r ≡ q
+pub move-one : (xs : List ℕ) (m : EntryMove) (c : EntryCursor) (r q : EntryMoved) → MovesEntry xs m c r → MovesEntry xs m c q → r ≡ q
 unfolding movedFrom
 move-one xs m c r q a b = sym (back r (a .handed)) ∙ ap (movedFrom c) (a .exact ∙ sym (b .exact)) ∙ back q (b .handed)
   where
@@ -206,7 +206,10 @@ move-one xs m c r q a b = sym (back r (a .handed)) ∙ ap (movedFrom c) (a .exac
 
 -- a header is read in one way
 frame-one : (xs : List ℕ) (f g : Frame) → Framed xs f → Framed xs g → f ≡ g
-frame-one xs f g a b = let p : f .count ≡ g .count = a .count-is ∙ sym (b .count-is) in let q : f .free ≡ g .free = a .free-is ∙ sym (b .free-is) in ap {B = Frame} (λ (n : ℕ). record { count = n; free = f .free }) p ∙ ap {B = Frame} (λ (n : ℕ). record { count = g .count; free = n }) q
+frame-one xs f g a b =
+    let p : f .count ≡ g .count = a .count-is ∙ sym (b .count-is) in
+    let q : f .free ≡ g .free = a .free-is ∙ sym (b .free-is) in
+    ap {B = Frame} (λ (n : ℕ). record { count = n; free = f .free }) p ∙ ap {B = Frame} (λ (n : ℕ). record { count = g .count; free = n }) q
 
 pub test-one : (xs : List ℕ) (c : Cursor) (r q : CursorTest) → Tested xs c r → Tested xs c q → r ≡ q
 test-one xs c (test.Passed f) (test.Passed g) (_, _, a) (_, _, b) = ap {B = CursorTest} test.Passed (frame-one xs f g a b)
@@ -216,7 +219,9 @@ test-one xs c (test.Failed q) (test.Passed f) (inl (j, _)) (h, i, _) = absurd (t
 test-one xs c (test.Failed q) (test.Passed f) (inr (_, j, _)) (h, i, _) = absurd (true≢false (sym i ∙ j))
 test-one xs c (test.Failed p) (test.Failed q) a b = ap {B = CursorTest} test.Failed (recovered refusalIs refusalFrom refusal-back p q (go a b))
   where
-    go : ((headerHolds xs ≡ false) × (refusalIs p ≡ is.badImage)) ⊎ ((headerHolds xs ≡ true) × (inTable xs c ≡ false) × (refusalIs p ≡ is.noNode)) → ((headerHolds xs ≡ false) × (refusalIs q ≡ is.badImage)) ⊎ ((headerHolds xs ≡ true) × (inTable xs c ≡ false) × (refusalIs q ≡ is.noNode)) → refusalIs p ≡ refusalIs q
+    go : ((headerHolds xs ≡ false) × (refusalIs p ≡ is.badImage)) ⊎ ((headerHolds xs ≡ true) × (inTable xs c ≡ false) × (refusalIs p ≡ is.noNode))
+        → ((headerHolds xs ≡ false) × (refusalIs q ≡ is.badImage)) ⊎ ((headerHolds xs ≡ true) × (inTable xs c ≡ false) × (refusalIs q ≡ is.noNode))
+        → refusalIs p ≡ refusalIs q
     go (inl (_, e)) (inl (_, f)) = e ∙ sym f
     go (inl (h, _)) (inr (i, _, _)) = absurd (true≢false (sym i ∙ h))
     go (inr (i, _, _)) (inl (h, _)) = absurd (true≢false (sym i ∙ h))

@@ -8,7 +8,7 @@ use mathlib.Core.Bool.{true, false}
 use Rattle.image.specs.Sound.{headerHolds, Sound}
 use Rattle.image.specs.Refusals.{badImage, noNode, damaged, Answer, refused, given, reading}
 use Rattle.image.specs.EntryMoves.{Cursor, nowhere, on, cursorAt, inTable, landing, EntryMove, entryMove}
-use Rattle.image.specs.Meaning.{Stands, Fitting, Leads, Lands}
+use Rattle.image.specs.Meaning.{Stands, Fitting, Leads, EntryLands}
 use Rattle.table.specs.Refusals.{refusalIs}
 use Rattle.table.specs.Nodes.{Framed}
 use Rattle.table.specs.Neighbours.{Beside}
@@ -52,8 +52,8 @@ HandsBack c (To d) = Unit
 HandsBack c (Refused q d) = d ≡ c
 
 -- what a move of the entry cursor promises; `lands` holds on any bytes, so no scan goes round
-pub record Moves (xs : List ℕ) (m : EntryMove) (c : EntryCursor) (r : EntryMoved) : Type 0 where
+pub record MovesEntry (xs : List ℕ) (m : EntryMove) (c : EntryCursor) (r : EntryMoved) : Type 0 where
   pub exact : movedAs r ≡ entryMove xs m (cursorIs c)
   pub handed : HandsBack c r
   pub rule : Sound xs → Stands xs (cursorIs c) → Fitting m → (d : Cursor) × (movedAs r ≡ given d) × Leads xs m (cursorIs c) d
-  pub lands : (d : Cursor) → movedAs r ≡ given d → Lands xs m (cursorIs c) d
+  pub lands : (d : Cursor) → movedAs r ≡ given d → EntryLands xs m (cursorIs c) d

@@ -24,9 +24,9 @@ use Rattle.table.specs.declared.questions.NewestAt.the-variants as newes
 -- ---- what is promised of an answer
 
 -- it is given, and has P
-abbrev pub Gives {ℓ} : {A : Type ℓ} → (A → Type 0) → Answer A → Type 0
-Gives P (given a) = P a
-Gives P (refused q) = ⊥
+abbrev pub GivenWith {ℓ} : {A : Type ℓ} → (A → Type 0) → Answer A → Type 0
+GivenWith P (given a) = P a
+GivenWith P (refused q) = ⊥
 
 -- if it is given, it has P
 abbrev pub IfGiven {ℓ} : {A : Type ℓ} → (A → Type 0) → Answer A → Type 0
@@ -62,7 +62,7 @@ hitAs hit.Damaged = refused damaged
 -- what the question for the nearest key promises
 pub record Nears (xs : List ℕ) (c : CutIs) (t : List ℕ) (r : Hit) : Type 0 where
   pub exact : hitAs r ≡ nearest xs c t
-  pub rule : Sound xs → Gives (NearestIs xs c t) (hitAs r)
+  pub rule : Sound xs → GivenWith (NearestIs xs c t) (hitAs r)
   pub lands : IfGiven (NearLands xs c t) (hitAs r)
 
 -- ---- newest
@@ -77,5 +77,5 @@ newestAs newest.Damaged = refused damaged
 -- what the question for the newest entry promises
 pub record TellsNewest (xs k : List ℕ) (s : ℕ) (r : NewestAt) : Type 0 where
   pub exact : newestAs r ≡ newestAt xs k s
-  pub rule : Sound xs → Gives (NewestIs xs k s) (newestAs r)
+  pub rule : Sound xs → GivenWith (NewestIs xs k s) (newestAs r)
   pub lands : IfGiven (NewestLandsOn xs k s) (newestAs r)

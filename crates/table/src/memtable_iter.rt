@@ -8,7 +8,7 @@ ghost use Rattle.image.specs.EntryMoves.{on, cursorAt, first, seek, next, previ
 ghost use Rattle.table.specs.Entries.{keyedOf};
 ghost use Rattle.table.specs.Nodes.{Numbered, InTable};
 ghost use Rattle.table.specs.Neighbours.{neighbourAs, NeighbourIn};
-ghost use Rattle.table.specs.MemtableIter.{cursorIs, Tested, foundAs, landsOn, movedAs, HandsBack, Moves};
+ghost use Rattle.table.specs.MemtableIter.{cursorIs, Tested, foundAs, landsOn, movedAs, HandsBack, MovesEntry};
 use crate::entries::Keyed;
 use crate::entries::MAX_KEY;
 use crate::entries::entry_less;
@@ -163,7 +163,7 @@ fn end_move(found: EntryFound, c: EntryCursor) -> EntryMoved
 
 // The first entry. Refusals 1, 10, 9.
 pub fn entry_first(s: &[u8], c: EntryCursor) -> EntryMoved
-    ensures { λ r. ⌜ Moves (now (s .entry)) first c r ⌝ }
+    ensures { λ r. ⌜ MovesEntry (now (s .entry)) first c r ⌝ }
 {
     let test = test_cursor(s, c);
     match test {
@@ -174,7 +174,7 @@ pub fn entry_first(s: &[u8], c: EntryCursor) -> EntryMoved
 
 // The first entry at or after a key and a number in the order. Refusals 1, 10, 3, 4, 9.
 pub fn entry_seek(s: &[u8], c: EntryCursor, key: &[u8], number: u64) -> EntryMoved
-    ensures { λ r. ⌜ Moves (now (s .entry)) (seek (now (key .entry)) number) c r ⌝ }
+    ensures { λ r. ⌜ MovesEntry (now (s .entry)) (seek (now (key .entry)) number) c r ⌝ }
 {
     let test = test_cursor(s, c);
     match test {
@@ -194,7 +194,7 @@ pub fn entry_seek(s: &[u8], c: EntryCursor, key: &[u8], number: u64) -> EntryMov
 
 // The next entry; from nowhere the first, from the last nowhere. Refusals 1, 10, 9.
 pub fn entry_next(s: &[u8], c: EntryCursor) -> EntryMoved
-    ensures { λ r. ⌜ Moves (now (s .entry)) next c r ⌝ }
+    ensures { λ r. ⌜ MovesEntry (now (s .entry)) next c r ⌝ }
 {
     let test = test_cursor(s, c);
     match test {
@@ -208,7 +208,7 @@ pub fn entry_next(s: &[u8], c: EntryCursor) -> EntryMoved
 
 // The entry before; from nowhere and from the first nowhere. Refusals 1, 10, 9.
 pub fn entry_prev(s: &[u8], c: EntryCursor) -> EntryMoved
-    ensures { λ r. ⌜ Moves (now (s .entry)) previous c r ⌝ }
+    ensures { λ r. ⌜ MovesEntry (now (s .entry)) previous c r ⌝ }
 {
     let test = test_cursor(s, c);
     match test {

@@ -26,7 +26,10 @@ plain-moved-requires c κs = search needs
 
 -- src/db_iter.rt:184:1
 returns : tie.Need-returns
-returns c = let a = c .before .before .before .before .before .args in meant (λ (d : Cursor). Moves next (a .first .now) (a .second .now) (a .snapshot) d) (plainMoved (a .at)) (c .before .before .cursor-of .ensures) (c .before .next .ensures) (c .plain-moved .ensures)
+returns c =
+    let a = c .before .before .before .before .before .args in
+    let cursor-of-says = c .before .before .cursor-of .ensures in
+    meant (λ (d : Cursor). Moves next (a .first .now) (a .second .now) (a .snapshot) d) (plainMoved (a .at)) cursor-of-says (c .before .next .ensures) (c .plain-moved .ensures)
 
 pub bavo-next-spec : {M : Type 1} → statement M
 bavo-next-spec = tie.close (tie.spec cursor-of-requires next-requires plain-moved-requires returns)

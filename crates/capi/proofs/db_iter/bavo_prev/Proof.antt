@@ -26,7 +26,10 @@ plain-moved-requires c κs = search needs
 
 -- src/db_iter.rt:200:1
 returns : tie.Need-returns
-returns c = let a = c .before .before .before .before .before .args in meant (λ (d : Cursor). Moves previous (a .first .now) (a .second .now) (a .snapshot) d) (plainMoved (a .at)) (c .before .before .cursor-of .ensures) (c .before .prev .ensures) (c .plain-moved .ensures)
+returns c =
+    let a = c .before .before .before .before .before .args in
+    let cursor-of-says = c .before .before .cursor-of .ensures in
+    meant (λ (d : Cursor). Moves previous (a .first .now) (a .second .now) (a .snapshot) d) (plainMoved (a .at)) cursor-of-says (c .before .prev .ensures) (c .plain-moved .ensures)
 
 pub bavo-prev-spec : {M : Type 1} → statement M
 bavo-prev-spec = tie.close (tie.spec cursor-of-requires prev-requires plain-moved-requires returns)

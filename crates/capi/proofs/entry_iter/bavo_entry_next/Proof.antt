@@ -1,7 +1,7 @@
 use Rattle.capi.proofs.Meant.{meant}
 use Rattle.table.specs.declared.memtable_iter.EntryCursor.{EntryCursor}
 use Rattle.image.specs.EntryMoves.{next}
-use Rattle.table.specs.MemtableIter.{Moves}
+use Rattle.table.specs.MemtableIter.{MovesEntry}
 use Rattle.capi.specs.EntryIter.{plainEntryMoved}
 use borrow.Author.Needs.{needs}
 use Rattle.capi.proofs.entry_iter.bavo_entry_next.Statement.{statement}
@@ -26,7 +26,10 @@ plain-entry-moved-requires c κs = search needs
 
 -- src/entry_iter.rt:99:1
 returns : tie.Need-returns
-returns c = let a = c .before .before .before .before .args in meant (λ (d : EntryCursor). Moves (a .image .now) next d) (plainEntryMoved (a .at)) (c .before .before .entry-cursor-of .ensures) (c .before .entry-next .ensures) (c .plain-entry-moved .ensures)
+returns c =
+    let a = c .before .before .before .before .args in
+    let entry-cursor-of-says = c .before .before .entry-cursor-of .ensures in
+    meant (λ (d : EntryCursor). MovesEntry (a .image .now) next d) (plainEntryMoved (a .at)) entry-cursor-of-says (c .before .entry-next .ensures) (c .plain-entry-moved .ensures)
 
 pub bavo-entry-next-spec : {M : Type 1} → statement M
 bavo-entry-next-spec =

@@ -1,7 +1,7 @@
 use Rattle.capi.proofs.Meant.{meant}
 use Rattle.table.specs.declared.memtable_iter.EntryCursor.{EntryCursor}
 use Rattle.image.specs.EntryMoves.{previous}
-use Rattle.table.specs.MemtableIter.{Moves}
+use Rattle.table.specs.MemtableIter.{MovesEntry}
 use Rattle.capi.specs.EntryIter.{plainEntryMoved}
 use borrow.Author.Needs.{needs}
 use Rattle.capi.proofs.entry_iter.bavo_entry_prev.Statement.{statement}
@@ -26,7 +26,10 @@ plain-entry-moved-requires c κs = search needs
 
 -- src/entry_iter.rt:107:1
 returns : tie.Need-returns
-returns c = let a = c .before .before .before .before .args in meant (λ (d : EntryCursor). Moves (a .image .now) previous d) (plainEntryMoved (a .at)) (c .before .before .entry-cursor-of .ensures) (c .before .entry-prev .ensures) (c .plain-entry-moved .ensures)
+returns c =
+    let a = c .before .before .before .before .args in
+    let entry-cursor-of-says = c .before .before .entry-cursor-of .ensures in
+    meant (λ (d : EntryCursor). MovesEntry (a .image .now) previous d) (plainEntryMoved (a .at)) entry-cursor-of-says (c .before .entry-prev .ensures) (c .plain-entry-moved .ensures)
 
 pub bavo-entry-prev-spec : {M : Type 1} → statement M
 bavo-entry-prev-spec =

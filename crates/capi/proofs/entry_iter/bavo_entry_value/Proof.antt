@@ -27,7 +27,10 @@ plain-view-requires c κs = search needs
 
 -- src/entry_iter.rt:123:1
 returns : tie.Need-returns
-returns c = let a = c .before .before .before .before .args in meant (λ (d : EntryCursor). Spans (a .image .now) (valueView (a .image .now) (cursorIs d))) plainView (c .before .before .entry-cursor-of .ensures) (c .before .entry-value-span .ensures) (c .plain-view .ensures)
+returns c =
+    let a = c .before .before .before .before .args in
+    let entry-cursor-of-says = c .before .before .entry-cursor-of .ensures in
+    meant (λ (d : EntryCursor). Spans (a .image .now) (valueView (a .image .now) (cursorIs d))) plainView entry-cursor-of-says (c .before .entry-value-span .ensures) (c .plain-view .ensures)
 
 pub bavo-entry-value-spec : {M : Type 1} → statement M
 bavo-entry-value-spec =

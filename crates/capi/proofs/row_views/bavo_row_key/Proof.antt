@@ -26,7 +26,10 @@ plain-row-view-requires c κs = search needs
 
 -- src/row_views.rt:53:1
 returns : tie.Need-returns
-returns c = let a = c .before .before .before .before .before .args in meant (λ (d : Cursor). RowSpans keyView (a .first .now) (a .second .now) d) plainRowView (c .before .before .cursor-of .ensures) (c .before .row-key-span .ensures) (c .plain-row-view .ensures)
+returns c =
+    let a = c .before .before .before .before .before .args in
+    let cursor-of-says = c .before .before .cursor-of .ensures in
+    meant (λ (d : Cursor). RowSpans keyView (a .first .now) (a .second .now) d) plainRowView cursor-of-says (c .before .row-key-span .ensures) (c .plain-row-view .ensures)
 
 pub bavo-row-key-spec : {M : Type 1} → statement M
 bavo-row-key-spec =

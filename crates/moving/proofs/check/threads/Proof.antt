@@ -48,16 +48,30 @@ returns-4 : tie.Need-returns-4 Inv-loop μ-loop
 returns-4 c = search needs
 
 may-follow-requires : tie.Need-may-follow-requires Inv-loop μ-loop
-may-follow-requires c κs = let i = rw (c .before .before .before .before .before .m .given .1) at (c .before .before .before .before .before .before .before .lead-of .ensures) in (c .before .before .before .before .before .before .before .before .before .before .before .before .loop .inv, search needs)
+may-follow-requires c κs =
+    let m-is = c .before .before .before .before .before .m .given .1 in
+    let lead-of-says = c .before .before .before .before .before .before .before .lead-of .ensures in
+    let ten-back = c .before .before .before .before .before .before .before .before .before .before in
+    let loop-inv = ten-back .before .before .loop .inv in
+    let i = rw m-is at lead-of-says in
+    (loop-inv, search needs)
 
 returns-5 : tie.Need-returns-5 Inv-loop μ-loop
 returns-5 c = search needs
 
 add-step : tie.Need-add-step Inv-loop μ-loop
-add-step c = let i = rw (c .before .before .before .before .before .before .before .before .m .given .1) at (c .before .before .before .before .before .before .before .before .before .before .lead-of .ensures) in search needs
+add-step c =
+    let m-is = c .before .before .before .before .before .before .before .before .m .given .1 in
+    let lead-of-says = c .before .before .before .before .before .before .before .before .before .before .lead-of .ensures in
+    let i = rw m-is at lead-of-says in
+    search needs
 
 step-requires-2 : tie.Need-step-requires-2 Inv-loop μ-loop
-step-requires-2 c κs = let i = rw (c .before .before .before .before .before .before .before .before .m .given .1) at (c .before .before .before .before .before .before .before .before .before .before .lead-of .ensures) in search needs
+step-requires-2 c κs =
+    let m-is = c .before .before .before .before .before .before .before .before .m .given .1 in
+    let lead-of-says = c .before .before .before .before .before .before .before .before .before .before .lead-of .ensures in
+    let i = rw m-is at lead-of-says in
+    search needs
 
 sub-left : tie.Need-sub-left Inv-loop μ-loop
 sub-left c = search needs
@@ -66,7 +80,13 @@ loop-less : tie.Need-loop-less Inv-loop μ-loop
 loop-less c = search needs
 
 loop-again : tie.Need-loop-again Inv-loop μ-loop
-loop-again c = let i = rw (c .before .before .before .before .before .before .before .before .before .m .given .1) at (c .before .before .before .before .before .before .before .before .before .before .before .lead-of .ensures) in record { inside = omega (arith, i .key .inside, i .end, c .before .before .before .before .before .before .before .before .before .before .before .before .before .before .before .before .before .before .before .pre .high) }
+loop-again c =
+    let m-is = c .before .before .before .before .before .before .before .before .before .m .given .1 in
+    let ten-back = c .before .before .before .before .before .before .before .before .before .before in
+    let lead-of-says = ten-back .before .lead-of .ensures in
+    let pre-high = ten-back .before .before .before .before .before .before .before .before .before .pre .high in
+    let i = rw m-is at lead-of-says in
+    record { inside = omega (arith, i .key .inside, i .end, pre-high) }
 
 all-meet-requires-2 : tie.Need-all-meet-requires-2 Inv-loop μ-loop
 all-meet-requires-2 c κs = search needs

@@ -18,7 +18,12 @@ enum-known-c : tie.Need-enum-known-c
 enum-known-c c = search needs
 
 parts-of-requires : tie.Need-parts-of-requires
-parts-of-requires c κs = let i = rw (c .before .before .before .before .test2 .given .1) at (c .before .before .before .before .before .before .test-cursor .ensures) in let j = rw (c .before .c .given .1) at (i .1) in search needs
+parts-of-requires c κs =
+    let test2-is = c .before .before .before .before .test2 .given .1 in
+    let test-cursor-says = c .before .before .before .before .before .before .test-cursor .ensures in
+    let i = rw test2-is at test-cursor-says in
+    let j = rw (c .before .c .given .1) at (i .1) in
+    search needs
 
 returns : tie.Need-returns
 returns c = search needs

@@ -25,7 +25,14 @@ returns : tie.Need-returns
 returns c = search needs
 
 put-in-requires : tie.Need-put-in-requires
-put-in-requires c κs = record { sized = c .before .before .before .before .before .before .before .before .before .before .before .pre; room = rw (not-false (c .before .before .before .has-room .result) (c .before .before .if1 .left)) at (c .before .before .before .has-room .ensures); inside = c .before .before .before .before .before .before .search .ensures .places }
+put-in-requires c κs =
+    let ten-back = c .before .before .before .before .before .before .before .before .before .before in
+    let pre = ten-back .before .pre in
+    let has-room-result = c .before .before .before .has-room .result in
+    let if1-left = c .before .before .if1 .left in
+    let has-room-says = c .before .before .before .has-room .ensures in
+    let search-says-places = c .before .before .before .before .before .before .search .ensures .places in
+    record { sized = pre; room = rw (not-false has-room-result if1-left) at has-room-says; inside = search-says-places }
 
 same-length-2 : tie.Need-same-length-2
 same-length-2 c = search needs

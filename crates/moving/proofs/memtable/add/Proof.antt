@@ -60,7 +60,12 @@ returns-7 : tie.Need-returns-7
 returns-7 c = search needs
 
 insert-requires : tie.Need-insert-requires
-insert-requires c κs = let i = rw (c .before .before .before .before .before .before .before .before .before .before .f .given .1) at (c .before .before .before .before .before .before .before .before .before .before .before .before .read-frame .ensures) in search needs
+insert-requires c κs =
+    let f-is = c .before .before .before .before .before .before .before .before .before .before .f .given .1 in
+    let ten-back = c .before .before .before .before .before .before .before .before .before .before in
+    let read-frame-says = ten-back .before .before .read-frame .ensures in
+    let i = rw f-is at read-frame-says in
+    search needs
 
 as-added-requires : tie.Need-as-added-requires
 as-added-requires c κs = search needs

@@ -21,7 +21,11 @@ returns : tie.Need-returns
 returns c = search needs
 
 land-after-requires : tie.Need-land-after-requires
-land-after-requires c κs = let i = rw (c .before .before .before .before .before .before .read .given .1) at (c .before .before .before .before .before .before .before .before .node-of .ensures) in search needs
+land-after-requires c κs =
+    let read-is = c .before .before .before .before .before .before .read .given .1 in
+    let node-of-says = c .before .before .before .before .before .before .before .before .node-of .ensures in
+    let i = rw read-is at node-of-says in
+    search needs
 
 returns-2 : tie.Need-returns-2
 returns-2 c = search needs

@@ -30,7 +30,11 @@ returns-4 : tie.Need-returns-4
 returns-4 c = search needs
 
 returns-5 : tie.Need-returns-5
-returns-5 c = rw (c .before .before .before .before .c .given .1) (rw (c .before .before .before .before .before .before .before .f .given .1) at (c .before .before .before .before .before .before .before .before .before .read-frame .ensures), search needs)
+returns-5 c =
+    let c-is = c .before .before .before .before .c .given .1 in
+    let f-is = c .before .before .before .before .before .before .before .f .given .1 in
+    let read-frame-says = c .before .before .before .before .before .before .before .before .before .read-frame .ensures in
+    rw c-is (rw f-is at read-frame-says, search needs)
 
 pub test-cursor-spec : {M : Type 1} → statement M
 test-cursor-spec =

@@ -21,7 +21,11 @@ enum-known-b : tie.Need-enum-known-b
 enum-known-b c = search needs
 
 nearer-requires : tie.Need-nearer-requires
-nearer-requires c κs = (rw (c .before .before .before .before .a .given .1) at (c .before .before .before .before .before .before .before .before .pre .0), rw (c .before .b .given .1) at (c .before .before .before .before .before .before .before .before .pre .1))
+nearer-requires c κs =
+    let a-is = c .before .before .before .before .a .given .1 in
+    let pre-0 = c .before .before .before .before .before .before .before .before .pre .0 in
+    let pre-1 = c .before .before .before .before .before .before .before .before .pre .1 in
+    (rw a-is at pre-0, rw (c .before .b .given .1) at pre-1)
 
 returns : tie.Need-returns
 returns c = search needs

@@ -27,7 +27,13 @@ returns-2 : tie.Need-returns-2
 returns-2 c = search needs
 
 returns-3 : tie.Need-returns-3
-returns-3 c = let i = rw (c .before .before .before .before .before .lead2 .given .1) at (c .before .before .before .before .before .before .before .lead-at .ensures) in let j = rw (c .before .rest2 .given .1) at (c .before .before .before .rest-at .ensures) in search needs
+returns-3 c =
+    let lead2-is = c .before .before .before .before .before .lead2 .given .1 in
+    let lead-at-says = c .before .before .before .before .before .before .before .lead-at .ensures in
+    let rest-at-says = c .before .before .before .rest-at .ensures in
+    let i = rw lead2-is at lead-at-says in
+    let j = rw (c .before .rest2 .given .1) at rest-at-says in
+    search needs
 
 pub node-at-spec : {M : Type 1} → statement M
 node-at-spec =

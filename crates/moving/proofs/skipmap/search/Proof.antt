@@ -58,7 +58,11 @@ hit-requires : tie.Need-hit-requires Inv-loop μ-loop
 hit-requires c κs = search needs
 
 returns-3 : tie.Need-returns-3 Inv-loop μ-loop
-returns-3 c = let t = rw (c .before .enum-told .given .1) at (c .before .before .before .meet-at .ensures) in ended _ _ _ _ _ (c .hit .ensures) (t, search needs, search needs) (c .before .before .before .before .before .before .before .loop .inv .kept)
+returns-3 c =
+    let meet-at-says = c .before .before .before .meet-at .ensures in
+    let inv-kept = c .before .before .before .before .before .before .before .loop .inv .kept in
+    let t = rw (c .before .enum-told .given .1) at meet-at-says in
+    ended _ _ _ _ _ (c .hit .ensures) (t, search needs, search needs) inv-kept
 
 enum-known-turn-2 : tie.Need-enum-known-turn-2 Inv-loop μ-loop
 enum-known-turn-2 c = search needs
@@ -67,7 +71,11 @@ loop-less : tie.Need-loop-less Inv-loop μ-loop
 loop-less c = search needs
 
 loop-again : tie.Need-loop-again Inv-loop μ-loop
-loop-again c = let t = rw (c .before .turn2 .given .1) at (c .before .before .before .meet-at .ensures) in let i = c .before .before .before .before .before .before .before .loop .inv in record { inside = t; low = i .low; few = search needs; bound = i .bound; small = i .small; back = search needs; kept = i .kept }
+loop-again c =
+    let meet-at-says = c .before .before .before .meet-at .ensures in
+    let i = c .before .before .before .before .before .before .before .loop .inv in
+    let t = rw (c .before .turn2 .given .1) at meet-at-says in
+    record { inside = t; low = i .low; few = search needs; bound = i .bound; small = i .small; back = search needs; kept = i .kept }
 
 enum-told-2 : tie.Need-enum-told-2 Inv-loop μ-loop
 enum-told-2 c = search needs
@@ -82,7 +90,9 @@ ends-requires : tie.Need-ends-requires Inv-loop μ-loop
 ends-requires c κs = search needs
 
 returns-4 : tie.Need-returns-4 Inv-loop μ-loop
-returns-4 c = let i = c .before .before .before .before .before .before .before .before .loop .inv in ended _ _ _ _ _ (c .ends .ensures) (i .back, search needs, search needs) (one-more _ _ _ _ (i .kept) (i .inside))
+returns-4 c =
+    let i = c .before .before .before .before .before .before .before .before .loop .inv in
+    ended _ _ _ _ _ (c .ends .ensures) (i .back, search needs, search needs) (one-more _ _ _ _ (i .kept) (i .inside))
 
 sub-level-2 : tie.Need-sub-level-2 Inv-loop μ-loop
 sub-level-2 c = search needs
@@ -91,7 +101,9 @@ loop-less-2 : tie.Need-loop-less-2 Inv-loop μ-loop
 loop-less-2 c = search needs
 
 loop-again-2 : tie.Need-loop-again-2 Inv-loop μ-loop
-loop-again-2 c = let i = c .before .before .before .before .before .before .before .loop .inv in record { inside = search needs; low = search needs; few = search needs; bound = i .bound; small = i .small; back = i .back; kept = one-more _ _ _ _ (i .kept) (i .inside) }
+loop-again-2 c =
+    let i = c .before .before .before .before .before .before .before .loop .inv in
+    record { inside = search needs; low = search needs; few = search needs; bound = i .bound; small = i .small; back = i .back; kept = one-more _ _ _ _ (i .kept) (i .inside) }
 
 mul-bad : tie.Need-mul-bad Inv-loop μ-loop
 mul-bad c = search needs

@@ -45,7 +45,10 @@ returns-5 : tie.Need-returns-5
 returns-5 c = rw (c .before .before .before .before .before .m .given .1) at (c .before .before .before .before .before .before .before .nearest-key .ensures)
 
 returns-6 : tie.Need-returns-6
-returns-6 c = rw (c .before .before .before .before .before .before .before .before .m .given .1) at (c .before .before .before .before .before .before .before .before .before .before .nearest-key .ensures)
+returns-6 c =
+    let m-is = c .before .before .before .before .before .before .before .before .m .given .1 in
+    let nearest-key-says = c .before .before .before .before .before .before .before .before .before .before .nearest-key .ensures in
+    rw m-is at nearest-key-says
 
 pub take-step-spec : {M : Type 1} → statement M
 take-step-spec =

@@ -1,6 +1,6 @@
 -- `check::all_meet`: one level a turn, from the highest down.
 use borrow.Author.Needs.{needs}
-use Rattle.table.proofs.Checking.{Meeting, meeting-begins, meeting-ends, other-meets, level-meets}
+use Rattle.table.proofs.CheckLaws.{Meeting, meeting-begins, meeting-ends, other-meets, level-meets}
 use Rattle.table.proofs.check.all_meet.Statement.{statement}
 use Rattle.table.proofs.check.all_meet.Tie as tie
 

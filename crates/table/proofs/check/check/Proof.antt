@@ -1,5 +1,5 @@
 -- `check::check`: the header first, then the pass over the nodes, then the walk along the chains, which decides.
-use Rattle.table.proofs.Checking.{bad-header, bad-nodes, whole-nodes, chains-decide}
+use Rattle.table.proofs.CheckLaws.{bad-header, bad-nodes, whole-nodes, chains-decide}
 use borrow.Author.Needs.{needs}
 use Rattle.table.proofs.check.check.Statement.{statement}
 use Rattle.table.proofs.check.check.Tie as tie
@@ -20,13 +20,29 @@ nodes-run-requires : tie.Need-nodes-run-requires
 nodes-run-requires c κs = (rw (c .before .f .given .1) at (c .before .before .before .read-frame .ensures))
 
 returns-2 : tie.Need-returns-2
-returns-2 c = bad-nodes _ (λ i. c .before .before .before .before .before .before .shared-slice-known .given i .fits) (rw (c .before .before .before .f .given .1) at (c .before .before .before .before .before .read-frame .ensures)) (c .before .nodes-run .ensures) (c .if1 .taken)
+returns-2 c =
+    let shared-slice-known-given = c .before .before .before .before .before .before .shared-slice-known .given in
+    let f-is = c .before .before .before .f .given .1 in
+    let read-frame-says = c .before .before .before .before .before .read-frame .ensures in
+    let read-frame-known = rw f-is at read-frame-says in
+    bad-nodes _ (λ i. shared-slice-known-given i .fits) read-frame-known (c .before .nodes-run .ensures) (c .if1 .taken)
 
 threads-requires : tie.Need-threads-requires
-threads-requires c κs = (whole-nodes _ (λ i. c .before .before .before .before .before .before .shared-slice-known .given i .fits) (rw (c .before .before .before .f .given .1) at (c .before .before .before .before .before .read-frame .ensures)) (c .before .nodes-run .ensures) (c .if1 .left), (rw (c .before .before .before .f .given .1) at (c .before .before .before .before .before .read-frame .ensures)))
+threads-requires c κs =
+    let shared-slice-known-given = c .before .before .before .before .before .before .shared-slice-known .given in
+    let f-is = c .before .before .before .f .given .1 in
+    let read-frame-says = c .before .before .before .before .before .read-frame .ensures in
+    let read-frame-known = rw f-is at read-frame-says in
+    (whole-nodes _ (λ i. shared-slice-known-given i .fits) read-frame-known (c .before .nodes-run .ensures) (c .if1 .left), read-frame-known)
 
 returns-3 : tie.Need-returns-3
-returns-3 c = chains-decide _ (λ i. c .before .before .before .before .before .before .before .shared-slice-known .given i .fits) (rw (c .before .before .before .before .f .given .1) at (c .before .before .before .before .before .before .read-frame .ensures)) (c .before .before .nodes-run .ensures) (c .before .if1 .left) (c .threads .ensures)
+returns-3 c =
+    let shared-slice-known-given = c .before .before .before .before .before .before .before .shared-slice-known .given in
+    let f-is = c .before .before .before .before .f .given .1 in
+    let read-frame-says = c .before .before .before .before .before .before .read-frame .ensures in
+    let nodes-run-says = c .before .before .nodes-run .ensures in
+    let read-frame-known = rw f-is at read-frame-says in
+    chains-decide _ (λ i. shared-slice-known-given i .fits) read-frame-known nodes-run-says (c .before .if1 .left) (c .threads .ensures)
 
 pub check-spec : {M : Type 1} → statement M
 check-spec =

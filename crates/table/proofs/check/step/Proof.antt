@@ -1,6 +1,6 @@
 -- `check::step`: one link a turn, from the lowest level up.
 use Prim.Native.Nat.{_-_}
-use Rattle.table.proofs.Checking.{Stepping, step-begins, step-ends, step-on}
+use Rattle.table.proofs.CheckLaws.{Stepping, step-begins, step-ends, step-on}
 use borrow.Author.Needs.{needs}
 use Rattle.table.proofs.check.step.Statement.{statement}
 use Rattle.table.proofs.check.step.Tie as tie

@@ -1,7 +1,7 @@
 -- `entries::entry_less`: keys and numbers where they stand, and their order.
 use mathlib.Core.Path.{_∙_}
 use Rattle.table.specs.Entries.{keyedOf}
-use Rattle.table.proofs.EntryBytes.{less-by}
+use Rattle.table.proofs.EntriesLaws.{less-by}
 use borrow.Author.Needs.{needs}
 use Rattle.table.proofs.entries.entry_less.Statement.{statement}
 use Rattle.table.proofs.entries.entry_less.Tie as tie

@@ -1,5 +1,5 @@
 -- `entries::entry_size`: the lengths of the five parts.
-use Rattle.table.proofs.EntryBytes.{entry-sized}
+use Rattle.table.proofs.EntriesLaws.{entry-sized}
 use borrow.Author.Needs.{needs}
 use Rattle.table.proofs.entries.entry_size.Statement.{statement}
 use Rattle.table.proofs.entries.entry_size.Tie as tie

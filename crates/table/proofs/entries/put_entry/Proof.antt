@@ -1,6 +1,6 @@
 -- `entries::put_entry`: the five parts, each behind the one before.
 use native.Mathlib.Omega.{arith}
-use Rattle.table.proofs.EntryBytes.{room, entry-written}
+use Rattle.table.proofs.EntriesLaws.{room, entry-written}
 use Rattle.table.specs.Entries.{entry}
 use borrow.Author.Needs.{needs}
 use Rattle.table.proofs.entries.put_entry.Statement.{statement}
@@ -50,7 +50,9 @@ returns c =
     let key = tag .before .before .before .before .before in
     let key-len = key .before .before .before .before in
     let a = key-len .before .before .before .before .before .args in
-    entry-written (a .s .now) (a .at) (entry (a .key .now) (a .number) (a .kind) (a .value .now)) (key-len .put-len .ensures .0) (key-len .put-len .ensures .1) (key .put-bytes .ensures) (tag .before .pack .ensures) (tag .put-tag .ensures) (value-len .put-len2 .ensures .0) (value-len .put-len2 .ensures .1) (value .put-bytes2 .ensures)
+    entry-written (a .s .now) (a .at) (entry (a .key .now) (a .number) (a .kind) (a .value .now)) (key-len .put-len .ensures .0) (key-len .put-len .ensures .1)
+    (key .put-bytes .ensures) (tag .before .pack .ensures) (tag .put-tag .ensures) (value-len .put-len2 .ensures .0) (value-len .put-len2 .ensures .1)
+    (value .put-bytes2 .ensures)
 
 pub put-entry-spec : {M : Type 1} → statement M
 put-entry-spec =

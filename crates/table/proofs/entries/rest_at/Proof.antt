@@ -1,6 +1,6 @@
 -- `entries::rest_at`: each way out is a case of the definition.
 use native.Mathlib.Omega.{arith}
-use Rattle.table.proofs.EntryBytes.{kind-unknown, kind-known, rest-kind, rest-bad, rest-long, rest-out, rest-over, rest-whole}
+use Rattle.table.proofs.EntriesLaws.{kind-unknown, kind-known, rest-kind, rest-bad, rest-long, rest-out, rest-over, rest-whole}
 use borrow.Author.Needs.{needs}
 use Rattle.table.proofs.entries.rest_at.Statement.{statement}
 use Rattle.table.proofs.entries.rest_at.Tie as tie
@@ -27,22 +27,47 @@ enum-known-len-2 : tie.Need-enum-known-len-2
 enum-known-len-2 c = search needs
 
 returns-2 : tie.Need-returns-2
-returns-2 c = let d = c .before .before .before .before .before in (rest-long _ _ _ (kind-known (d .before .known .ensures) (d .before .before .kind .ensures) (d .if1 .left)) (rw (c .before .before .len2 .given .1) at (c .before .before .before .before .len-at .ensures .0)) (c .if2 .taken), tt)
+returns-2 c =
+    let d = c .before .before .before .before .before in
+    let len2-is = c .before .before .len2 .given .1 in
+    let len-at-says-0 = c .before .before .before .before .len-at .ensures .0 in
+    let len-at-says-0-known = rw len2-is at len-at-says-0 in
+    (rest-long _ _ _ (kind-known (d .before .known .ensures) (d .before .before .kind .ensures) (d .if1 .left)) len-at-says-0-known (c .if2 .taken), tt)
 
 add-stop : tie.Need-add-stop
 add-stop c = omega (arith, rw (c .before .before .len2 .given .1) at (c .before .before .before .before .len-at .ensures .1))
 
 returns-3 : tie.Need-returns-3
-returns-3 c = let d = c .before .before .before .before .before .before in (rest-out _ _ _ (kind-known (d .before .known .ensures) (d .before .before .kind .ensures) (d .if1 .left)) (rw (c .before .before .before .len2 .given .1) at (c .before .before .before .before .before .len-at .ensures .0)) (c .before .if2 .left) (c .if3 .taken), tt)
+returns-3 c =
+    let d = c .before .before .before .before .before .before in
+    let len2-is = c .before .before .before .len2 .given .1 in
+    let len-at-says-0 = c .before .before .before .before .before .len-at .ensures .0 in
+    let len-at-says-0-known = rw len2-is at len-at-says-0 in
+    (rest-out _ _ _ (kind-known (d .before .known .ensures) (d .before .before .kind .ensures) (d .if1 .left)) len-at-says-0-known (c .before .if2 .left) (c .if3 .taken), tt)
 
 returns-4 : tie.Need-returns-4
-returns-4 c = let d = c .before .before .before .before .before .before .before in (rest-over _ _ _ (kind-known (d .before .known .ensures) (d .before .before .kind .ensures) (d .if1 .left)) (rw (c .before .before .before .before .len2 .given .1) at (c .before .before .before .before .before .before .len-at .ensures .0)) (c .before .before .if2 .left) (c .before .if3 .left) (c .if4 .taken), tt)
+returns-4 c =
+    let d = c .before .before .before .before .before .before .before in
+    let len2-is = c .before .before .before .before .len2 .given .1 in
+    let len-at-says-0 = c .before .before .before .before .before .before .len-at .ensures .0 in
+    let if2-left = c .before .before .if2 .left in
+    let len-at-says-0-known = rw len2-is at len-at-says-0 in
+    (rest-over _ _ _ (kind-known (d .before .known .ensures) (d .before .before .kind .ensures) (d .if1 .left)) len-at-says-0-known if2-left (c .before .if3 .left) (c .if4 .taken), tt)
 
 returns-5 : tie.Need-returns-5
-returns-5 c = let d = c .before .before .before .before in (rest-bad _ _ _ (kind-known (d .before .known .ensures) (d .before .before .kind .ensures) (d .if1 .left)) (rw (c .before .len .given .1) at (c .before .before .before .len-at .ensures .0)), tt)
+returns-5 c =
+    let d = c .before .before .before .before in
+    let len-at-says-0 = c .before .before .before .len-at .ensures .0 in
+    (rest-bad _ _ _ (kind-known (d .before .known .ensures) (d .before .before .kind .ensures) (d .if1 .left)) (rw (c .before .len .given .1) at len-at-says-0), tt)
 
 returns-6 : tie.Need-returns-6
-returns-6 c = let d = c .before .before .before .before .before .before .before in (rest-whole _ _ _ (kind-known (d .before .known .ensures) (d .before .before .kind .ensures) (d .if1 .left)) (rw (c .before .before .before .before .len2 .given .1) at (c .before .before .before .before .before .before .len-at .ensures .0)) (c .before .before .if2 .left) (c .before .if3 .left) (c .if4 .left), omega arith)
+returns-6 c =
+    let d = c .before .before .before .before .before .before .before in
+    let len2-is = c .before .before .before .before .len2 .given .1 in
+    let len-at-says-0 = c .before .before .before .before .before .before .len-at .ensures .0 in
+    let if2-left = c .before .before .if2 .left in
+    let len-at-says-0-known = rw len2-is at len-at-says-0 in
+    (rest-whole _ _ _ (kind-known (d .before .known .ensures) (d .before .before .kind .ensures) (d .if1 .left)) len-at-says-0-known if2-left (c .before .if3 .left) (c .if4 .left), omega arith)
 
 pub rest-at-spec : {M : Type 1} → statement M
 rest-at-spec =

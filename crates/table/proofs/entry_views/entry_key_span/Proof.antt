@@ -1,4 +1,4 @@
-use Rattle.table.proofs.Views.{span-nowhere, span-refused, span-key}
+use Rattle.table.proofs.EntryViewsLaws.{span-nowhere, span-refused, span-key}
 use Rattle.image.specs.EntryMoves.{keySpan}
 use Rattle.table.specs.MemtableIter.{cursorIs}
 use borrow.Author.Needs.{needs}

@@ -1,4 +1,4 @@
-use Rattle.table.proofs.Views.{bare-else, bare-number, shown-number}
+use Rattle.table.proofs.EntryViewsLaws.{bare-else, bare-number, shown-number}
 use Rattle.image.specs.EntryMoves.{kindIn}
 use Rattle.table.specs.MemtableIter.{cursorIs}
 use mathlib.Core.Path.{_≡_, refl, sym, ap, _∙_}

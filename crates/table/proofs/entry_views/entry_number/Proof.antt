@@ -1,4 +1,4 @@
-use Rattle.table.proofs.Views.{bare-else, bare-number, shown-number}
+use Rattle.table.proofs.EntryViewsLaws.{bare-else, bare-number, shown-number}
 use Rattle.image.specs.Entries.{numberIn, Parts}
 use Rattle.table.specs.MemtableIter.{cursorIs}
 use mathlib.Core.Path.{_≡_, refl, sym, ap, _∙_}
@@ -15,7 +15,8 @@ enum-known-p c = search needs
 returns : tie.Need-returns
 returns c =
     let a = c .before .before .before .args in
-    bare-number (a .s .now) (cursorIs (a .c)) (c .before .parts-on .result) (c .before .parts-on .ensures) (bare-else (c .before .parts-on .result) (c .match .keys2)) (λ (p : Parts). numberIn (p .keyed))
+    bare-number (a .s .now) (cursorIs (a .c)) (c .before .parts-on .result) (c .before .parts-on .ensures)
+    (bare-else (c .before .parts-on .result) (c .match .keys2)) (λ (p : Parts). numberIn (p .keyed))
 
 number-requires : tie.Need-number-requires
 number-requires c κs = search needs

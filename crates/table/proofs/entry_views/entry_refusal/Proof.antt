@@ -1,4 +1,4 @@
-use Rattle.table.proofs.Views.{refusal-is}
+use Rattle.table.proofs.EntryViewsLaws.{refusal-is}
 use Rattle.image.specs.Refusals.{refusalOf}
 use Rattle.table.specs.EntryViews.{partsOnAs}
 use Rattle.table.specs.declared.entry_views.PartsOn.{PartsOn}

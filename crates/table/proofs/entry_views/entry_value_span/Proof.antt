@@ -1,4 +1,4 @@
-use Rattle.table.proofs.Views.{span-nowhere, span-refused, span-deletion, span-value}
+use Rattle.table.proofs.EntryViewsLaws.{span-nowhere, span-refused, span-deletion, span-value}
 use Rattle.image.specs.EntryMoves.{valueSpan}
 use Rattle.table.specs.MemtableIter.{cursorIs}
 use borrow.Author.Needs.{needs}

@@ -1,6 +1,6 @@
 -- `entry_views::part_of`: the part that the span names, which lies in the image.
 use native.Mathlib.Omega.{arith}
-use Rattle.table.proofs.Views.{span-lent}
+use Rattle.table.proofs.EntryViewsLaws.{span-lent}
 use borrow.Author.Needs.{needs}
 use Rattle.table.proofs.entry_views.part_of.Statement.{statement}
 use Rattle.table.proofs.entry_views.part_of.Tie as tie

@@ -1,5 +1,5 @@
 use mathlib.Core.Path.{_∙_}
-use Rattle.table.proofs.Views.{span-shows}
+use Rattle.table.proofs.EntryViewsLaws.{span-shows}
 use borrow.Author.Needs.{needs}
 use Rattle.table.proofs.entry_views.value.Statement.{statement}
 use Rattle.table.proofs.entry_views.value.Tie as tie

@@ -1,5 +1,5 @@
 use mathlib.Core.Path.{refl}
-use Rattle.table.proofs.Insertion.{header-written}
+use Rattle.table.proofs.InsertLaws.{header-written}
 use borrow.Author.Needs.{needs}
 use Rattle.table.proofs.insert.fresh_header.Statement.{statement}
 use Rattle.table.proofs.insert.fresh_header.Tie as tie

@@ -1,5 +1,5 @@
 -- `insert::has_room`: the count first, then the bytes.
-use Rattle.table.proofs.Inserting.{room-none, room-test}
+use Rattle.table.proofs.InsertLaws.{room-none, room-test}
 use borrow.Author.Needs.{needs}
 use Rattle.table.proofs.insert.has_room.Statement.{statement}
 use Rattle.table.proofs.insert.has_room.Tie as tie

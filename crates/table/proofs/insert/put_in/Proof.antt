@@ -1,8 +1,7 @@
 -- `insert::put_in`: the writes one after the other are the image that the definition says.
 use native.Mathlib.Omega.{arith}
 use mathlib.Core.Path.{refl, _∙_}
-use Rattle.table.proofs.Insertion.{entry-put-in}
-use Rattle.table.proofs.Parts.{tail-back, tail-lent}
+use Rattle.table.proofs.InsertLaws.{entry-put-in, tail-back, tail-lent}
 use Rattle.table.specs.Entries.{entry}
 use borrow.Author.Needs.{needs}
 use Rattle.table.proofs.insert.put_in.Statement.{statement}

@@ -1,6 +1,6 @@
 use mathlib.Core.Path.{refl}
 use Rattle.table.specs.Entries.{entry}
-use Rattle.table.proofs.Insertion.{node-put-together}
+use Rattle.table.proofs.InsertLaws.{node-put-together}
 use borrow.Author.Needs.{needs}
 use Rattle.table.proofs.insert.put_node.Statement.{statement}
 use Rattle.table.proofs.insert.put_node.Tie as tie

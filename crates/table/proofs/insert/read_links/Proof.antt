@@ -1,6 +1,6 @@
 -- `insert::read_links`: one link a turn, from the lowest level up.
 use Prim.Native.Nat.{_-_}
-use Rattle.table.proofs.Insertion.{Reading, reading-starts, reading-next, reading-ends}
+use Rattle.table.proofs.InsertLaws.{Reading, reading-starts, reading-next, reading-ends}
 use borrow.Author.Needs.{needs}
 use Rattle.table.proofs.insert.read_links.Statement.{statement}
 use Rattle.table.proofs.insert.read_links.Tie as tie

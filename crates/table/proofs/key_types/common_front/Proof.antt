@@ -5,7 +5,7 @@ use Prim.Native.Nat.{_-_, _≤_}
 use mathlib.Core.Path.{_≡_, sym, _∙_}
 use lib.ListN.{length}
 use Rattle.rule.specs.Order.{compareKeys}
-use Rattle.table.proofs.Order.{left, left-all, same-bytes, front-left}
+use Rattle.table.proofs.KeyTypesLaws.{left, left-all, same-bytes, front-left}
 use Rattle.table.proofs.key_types.common_front.Statement.{statement}
 use Rattle.table.proofs.key_types.common_front.Tie as tie
 

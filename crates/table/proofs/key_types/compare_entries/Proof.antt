@@ -1,5 +1,5 @@
 -- `key_types::compare_entries`: the keys decide, or else the numbers do.
-use Rattle.table.proofs.Order.{keys-less, keys-greater, newer-first, older-last, numbers-same}
+use Rattle.table.proofs.KeyTypesLaws.{keys-less, keys-greater, newer-first, older-last, numbers-same}
 use borrow.Author.Needs.{needs}
 use Rattle.table.proofs.key_types.compare_entries.Statement.{statement}
 use Rattle.table.proofs.key_types.compare_entries.Tie as tie

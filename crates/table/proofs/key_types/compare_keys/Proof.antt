@@ -4,7 +4,7 @@ use Prim.Native.Nat.{_-_, _≤_}
 use mathlib.Core.Path.{_≡_, sym, _∙_}
 use lib.ListN.{length}
 use Rattle.rule.specs.Order.{compareKeys}
-use Rattle.table.proofs.Order.{left, left-front, both-ended, first-ended, second-ended, less-byte, greater-byte, same-byte}
+use Rattle.table.proofs.KeyTypesLaws.{left, left-front, both-ended, first-ended, second-ended, less-byte, greater-byte, same-byte}
 use Rattle.table.proofs.key_types.compare_keys.Statement.{statement}
 use Rattle.table.proofs.key_types.compare_keys.Tie as tie
 
@@ -30,10 +30,18 @@ shared-slice-read-y : tie.Need-shared-slice-read-y Inv-loop μ-loop
 shared-slice-read-y c = search needs
 
 returns-2 : tie.Need-returns-2 Inv-loop μ-loop
-returns-2 c = less-byte _ _ _ (c .before .before .before .before .loop-test .taken) (c .before .before .before .if1 .left) (c .if2 .taken) ∙ sym (c .before .before .before .before .before .loop .inv .2)
+returns-2 c =
+    let loop-test-taken = c .before .before .before .before .loop-test .taken in
+    let if1-left = c .before .before .before .if1 .left in
+    let inv-2 = c .before .before .before .before .before .loop .inv .2 in
+    less-byte _ _ _ loop-test-taken if1-left (c .if2 .taken) ∙ sym inv-2
 
 returns-3 : tie.Need-returns-3 Inv-loop μ-loop
-returns-3 c = greater-byte _ _ _ (c .before .before .before .before .before .loop-test .taken) (c .before .before .before .before .if1 .left) (c .before .if2 .left) (c .if3 .taken) ∙ sym (c .before .before .before .before .before .before .loop .inv .2)
+returns-3 c =
+    let loop-test-taken = c .before .before .before .before .before .loop-test .taken in
+    let if1-left = c .before .before .before .before .if1 .left in
+    let inv-2 = c .before .before .before .before .before .before .loop .inv .2 in
+    greater-byte _ _ _ loop-test-taken if1-left (c .before .if2 .left) (c .if3 .taken) ∙ sym inv-2
 
 add-i : tie.Need-add-i Inv-loop μ-loop
 add-i c = search needs
@@ -42,7 +50,11 @@ loop-less : tie.Need-loop-less Inv-loop μ-loop
 loop-less c = search needs
 
 loop-again : tie.Need-loop-again Inv-loop μ-loop
-loop-again c = (search needs, search needs, c .before .before .before .before .before .before .loop .inv .2 ∙ same-byte _ _ _ (c .before .before .before .before .before .loop-test .taken) (c .before .before .before .before .if1 .left) (c .before .if2 .left) (c .if3 .left))
+loop-again c =
+    let inv-2 = c .before .before .before .before .before .before .loop .inv .2 in
+    let loop-test-taken = c .before .before .before .before .before .loop-test .taken in
+    let if1-left = c .before .before .before .before .if1 .left in
+    (search needs, search needs, inv-2 ∙ same-byte _ _ _ loop-test-taken if1-left (c .before .if2 .left) (c .if3 .left))
 
 returns-4 : tie.Need-returns-4 Inv-loop μ-loop
 returns-4 c = both-ended _ _ _ (c .before .loop-test .left) (c .if4 .taken) ∙ sym (c .before .before .loop .inv .2)

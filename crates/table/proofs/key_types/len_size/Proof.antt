@@ -1,7 +1,7 @@
 -- `key_types::len_size`: one byte below 128, else two.
 use mathlib.Core.Path.{sym}
 use native.Mathlib.Omega.{arith}
-use Rattle.table.proofs.Lengths.{size-one, size-two}
+use Rattle.table.proofs.KeyTypesLaws.{size-one, size-two}
 use Rattle.table.proofs.key_types.len_size.Statement.{statement}
 use Rattle.table.proofs.key_types.len_size.Tie as tie
 

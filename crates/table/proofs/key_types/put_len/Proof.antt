@@ -1,7 +1,7 @@
 -- `key_types::put_len`: one byte below 128, else two.
 use native.Mathlib.Omega.{arith}
 use lib.ListN.{length-set}
-use Rattle.table.proofs.Lengths.{size-one, size-two, put-one, put-two}
+use Rattle.table.proofs.KeyTypesLaws.{size-one, size-two, put-one, put-two}
 use borrow.Author.Needs.{needs}
 use Rattle.table.proofs.key_types.put_len.Statement.{statement}
 use Rattle.table.proofs.key_types.put_len.Tie as tie

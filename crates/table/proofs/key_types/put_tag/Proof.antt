@@ -1,5 +1,5 @@
 -- `key_types::put_tag`: two words are eight bytes.
-use Rattle.table.proofs.Writing.{two-words}
+use Rattle.table.proofs.WordsLaws.{two-words}
 use borrow.Author.Needs.{needs}
 use Rattle.table.proofs.key_types.put_tag.Statement.{statement}
 use Rattle.table.proofs.key_types.put_tag.Tie as tie

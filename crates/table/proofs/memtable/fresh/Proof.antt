@@ -1,4 +1,4 @@
-use Rattle.table.proofs.Answers.{fresh-short, fresh-long, fresh-done}
+use Rattle.table.proofs.MemtableLaws.{fresh-short, fresh-long, fresh-done}
 use borrow.Author.Needs.{needs}
 use Rattle.table.proofs.memtable.fresh.Statement.{statement}
 use Rattle.table.proofs.memtable.fresh.Tie as tie

@@ -1,5 +1,5 @@
-use Rattle.table.proofs.NodeBytes.{framed-holds}
-use Rattle.table.proofs.Lookups.{get-header, get-number, get-key, get-damaged, get-said, gets}
+use Rattle.table.proofs.NodesLaws.{framed-holds}
+use Rattle.table.proofs.MemtableLaws.{get-header, get-number, get-key, get-damaged, get-said, gets}
 use borrow.Author.Needs.{needs}
 use Rattle.table.proofs.memtable.get.Statement.{statement}
 use Rattle.table.proofs.memtable.get.Tie as tie

@@ -1,4 +1,4 @@
-use Rattle.table.proofs.Lookups.{says-other, says-deleted, says-found}
+use Rattle.table.proofs.MemtableLaws.{says-other, says-deleted, says-found}
 use Rattle.table.proofs.memtable.says.Statement.{statement}
 use Rattle.table.proofs.memtable.says.Tie as tie
 use Rattle.table.proofs.memtable.says.Reads as reads

@@ -1,7 +1,7 @@
 -- `memtable_iter::entry_before`: the last entry before that of the node that was read.
-use Rattle.table.proofs.Adjacent.{lands-passed}
-use Rattle.table.proofs.Cursors.{previous-damaged, previous-searches}
-use Rattle.table.proofs.Lookups.{parts-inside}
+use Rattle.table.proofs.NeighboursLaws.{lands-passed}
+use Rattle.table.proofs.MemtableIterLaws.{previous-damaged, previous-searches}
+use Rattle.table.proofs.MemtableLaws.{parts-inside}
 use borrow.Author.Needs.{needs}
 use Rattle.table.proofs.memtable_iter.entry_before.Statement.{statement}
 use Rattle.table.proofs.memtable_iter.entry_before.Tie as tie

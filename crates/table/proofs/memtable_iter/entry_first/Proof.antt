@@ -1,7 +1,7 @@
 use mathlib.Core.Path.{refl}
 use Rattle.table.specs.MemtableIter.{cursorIs}
-use Rattle.table.proofs.Adjacent.{lands-first}
-use Rattle.table.proofs.Cursors.{ready, move-refused, move-made}
+use Rattle.table.proofs.NeighboursLaws.{lands-first}
+use Rattle.table.proofs.MemtableIterLaws.{ready, move-refused, move-made}
 use borrow.Author.Needs.{needs}
 use Rattle.table.proofs.memtable_iter.entry_first.Statement.{statement}
 use Rattle.table.proofs.memtable_iter.entry_first.Tie as tie

@@ -1,7 +1,7 @@
 use mathlib.Core.Path.{refl, ap}
 use Rattle.table.specs.MemtableIter.{cursorIs}
-use Rattle.table.proofs.Adjacent.{lands-first}
-use Rattle.table.proofs.Cursors.{ready, numbered, move-refused, move-made}
+use Rattle.table.proofs.NeighboursLaws.{lands-first}
+use Rattle.table.proofs.MemtableIterLaws.{ready, numbered, move-refused, move-made}
 use borrow.Author.Needs.{needs}
 use Rattle.table.proofs.memtable_iter.entry_next.Statement.{statement}
 use Rattle.table.proofs.memtable_iter.entry_next.Tie as tie

@@ -1,8 +1,8 @@
 use mathlib.Core.Path.{refl}
 use Rattle.image.specs.Search.{toStop}
 use Rattle.table.specs.MemtableIter.{cursorIs}
-use Rattle.table.proofs.Adjacent.{lands-standing}
-use Rattle.table.proofs.Cursors.{ready, move-refused, move-made, seek-number, seek-key, seek-allowed}
+use Rattle.table.proofs.NeighboursLaws.{lands-standing}
+use Rattle.table.proofs.MemtableIterLaws.{ready, move-refused, move-made, seek-number, seek-key, seek-allowed}
 use borrow.Author.Needs.{needs}
 use Rattle.table.proofs.memtable_iter.entry_seek.Statement.{statement}
 use Rattle.table.proofs.memtable_iter.entry_seek.Tie as tie

@@ -1,5 +1,5 @@
 -- `memtable_iter::land`: damage, none, a node that cannot be read, or one that can.
-use Rattle.table.proofs.Cursors.{land-none, land-bad, land-on}
+use Rattle.table.proofs.MemtableIterLaws.{land-none, land-bad, land-on}
 use borrow.Author.Needs.{needs}
 use Rattle.table.proofs.memtable_iter.land.Statement.{statement}
 use Rattle.table.proofs.memtable_iter.land.Tie as tie

@@ -1,7 +1,7 @@
 -- `memtable_iter::land_after`: the same, and a node that does not come after the entry is damage.
 use Rattle.table.specs.Entries.{keyedOf}
-use Rattle.table.proofs.Lookups.{parts-inside}
-use Rattle.table.proofs.Cursors.{after-none, after-bad, after-back, after-on}
+use Rattle.table.proofs.MemtableLaws.{parts-inside}
+use Rattle.table.proofs.MemtableIterLaws.{after-none, after-bad, after-back, after-on}
 use borrow.Author.Needs.{needs}
 use Rattle.table.proofs.memtable_iter.land_after.Statement.{statement}
 use Rattle.table.proofs.memtable_iter.land_after.Tie as tie
@@ -19,16 +19,39 @@ enum-known-read : tie.Need-enum-known-read
 enum-known-read c = search needs
 
 entry-less-requires : tie.Need-entry-less-requires
-entry-less-requires c κs = let a = c .before .before .before .before .before .before .before .args in (c .before .before .before .before .before .before .before .pre .1, (parts-inside (a .s .now) (a .node) (c .before .before .before .before .before .before .before .pre .0 .framed .header) (rw (c .before .before .read .given .1) at (c .before .before .before .before .node-of .ensures))) .0)
+entry-less-requires c κs =
+    let a = c .before .before .before .before .before .before .before .args in
+    let pre-1 = c .before .before .before .before .before .before .before .pre .1 in
+    let framed-header = c .before .before .before .before .before .before .before .pre .0 .framed .header in
+    let read-is = c .before .before .read .given .1 in
+    let node-of-says = c .before .before .before .before .node-of .ensures in
+    let node-of-known = rw read-is at node-of-says in
+    (pre-1, (parts-inside (a .s .now) (a .node) framed-header node-of-known) .0)
 
 returns-2 : tie.Need-returns-2
-returns-2 c = let a = c .before .before .before .before .before .before .before .before .before .args in λ o. after-back (a .s .now) (keyedOf (a .from)) o (a .node) (c .before .before .before .before .before .before .before .if1 .left) (rw (c .before .before .before .before .read .given .1) at (c .before .before .before .before .before .before .node-of .ensures)) (c .before .entry-less .ensures) (c .if2 .taken)
+returns-2 c =
+    let a = c .before .before .before .before .before .before .before .before .before .args in
+    let if1-left = c .before .before .before .before .before .before .before .if1 .left in
+    let read-is = c .before .before .before .before .read .given .1 in
+    let node-of-says = c .before .before .before .before .before .before .node-of .ensures in
+    let node-of-known = rw read-is at node-of-says in
+    λ o. after-back (a .s .now) (keyedOf (a .from)) o (a .node) if1-left node-of-known (c .before .entry-less .ensures) (c .if2 .taken)
 
 returns-3 : tie.Need-returns-3
-returns-3 c = let a = c .before .before .before .before .before .args in λ o. after-bad (a .s .now) (keyedOf (a .from)) o (a .node) (c .before .before .before .if1 .left) (rw (c .enum-told .given .1) at (c .before .before .node-of .ensures))
+returns-3 c =
+    let a = c .before .before .before .before .before .args in
+    let if1-left = c .before .before .before .if1 .left in
+    let node-of-says = c .before .before .node-of .ensures in
+    λ o. after-bad (a .s .now) (keyedOf (a .from)) o (a .node) if1-left (rw (c .enum-told .given .1) at node-of-says)
 
 returns-4 : tie.Need-returns-4
-returns-4 c = let a = c .before .before .before .before .before .before .before .before .before .args in λ o. after-on (a .s .now) (keyedOf (a .from)) o (a .node) (c .before .before .before .before .before .before .before .if1 .left) (rw (c .before .before .before .before .read .given .1) at (c .before .before .before .before .before .before .node-of .ensures)) (c .before .entry-less .ensures) (c .if2 .left)
+returns-4 c =
+    let a = c .before .before .before .before .before .before .before .before .before .args in
+    let if1-left = c .before .before .before .before .before .before .before .if1 .left in
+    let read-is = c .before .before .before .before .read .given .1 in
+    let node-of-says = c .before .before .before .before .before .before .node-of .ensures in
+    let node-of-known = rw read-is at node-of-says in
+    λ o. after-on (a .s .now) (keyedOf (a .from)) o (a .node) if1-left node-of-known (c .before .entry-less .ensures) (c .if2 .left)
 
 pub land-after-spec : {M : Type 1} → statement M
 land-after-spec =

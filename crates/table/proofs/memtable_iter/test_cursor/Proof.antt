@@ -1,6 +1,6 @@
 -- `memtable_iter::test_cursor`: the header is tested, then the node against the count that was read.
 use Rattle.table.specs.MemtableIter.{cursorIs}
-use Rattle.table.proofs.Cursors.{test-header, test-nowhere, test-zero, test-above, test-node}
+use Rattle.table.proofs.MemtableIterLaws.{test-header, test-nowhere, test-zero, test-above, test-node}
 use borrow.Author.Needs.{needs}
 use Rattle.table.proofs.memtable_iter.test_cursor.Statement.{statement}
 use Rattle.table.proofs.memtable_iter.test_cursor.Tie as tie
@@ -15,7 +15,11 @@ enum-told : tie.Need-enum-told
 enum-told c = search needs
 
 returns : tie.Need-returns
-returns c = test-header (c .before .before .before .before .args .s .now) (cursorIs (c .before .before .before .before .args .c)) (rw (c .enum-told .given .1) at (c .before .before .read-frame .ensures))
+returns c =
+    let s-now = c .before .before .before .before .args .s .now in
+    let args-c = c .before .before .before .before .args .c in
+    let read-frame-says = c .before .before .read-frame .ensures in
+    test-header s-now (cursorIs args-c) (rw (c .enum-told .given .1) at read-frame-says)
 
 enum-known-c : tie.Need-enum-known-c
 enum-known-c c = search needs
@@ -24,16 +28,43 @@ enum-told-2 : tie.Need-enum-told-2
 enum-told-2 c = search needs
 
 returns-2 : tie.Need-returns-2
-returns-2 c = test-nowhere (c .before .before .before .before .before .before .before .args .s .now) (rw (c .before .before .before .f .given .1) at (c .before .before .before .before .before .read-frame .ensures)) (c .enum-told2 .given .1)
+returns-2 c =
+    let s-now = c .before .before .before .before .before .before .before .args .s .now in
+    let f-is = c .before .before .before .f .given .1 in
+    let read-frame-says = c .before .before .before .before .before .read-frame .ensures in
+    let read-frame-known = rw f-is at read-frame-says in
+    test-nowhere s-now read-frame-known (c .enum-told2 .given .1)
 
 returns-3 : tie.Need-returns-3
-returns-3 c = test-zero (c .before .before .before .before .before .before .before .before .before .args .s .now) (rw (c .before .before .before .before .before .f .given .1) at (c .before .before .before .before .before .before .before .read-frame .ensures)) (c .before .before .c .given .1) (c .if1 .taken)
+returns-3 c =
+    let s-now = c .before .before .before .before .before .before .before .before .before .args .s .now in
+    let f-is = c .before .before .before .before .before .f .given .1 in
+    let read-frame-says = c .before .before .before .before .before .before .before .read-frame .ensures in
+    let c-is = c .before .before .c .given .1 in
+    let read-frame-known = rw f-is at read-frame-says in
+    test-zero s-now read-frame-known c-is (c .if1 .taken)
 
 returns-4 : tie.Need-returns-4
-returns-4 c = test-above (c .before .before .before .before .before .before .before .before .before .before .before .args .s .now) (rw (c .before .before .before .before .before .before .before .f .given .1) at (c .before .before .before .before .before .before .before .before .before .read-frame .ensures)) (c .before .before .before .before .c .given .1) (c .before .before .if1 .left) (c .if2 .taken)
+returns-4 c =
+    let ten-back = c .before .before .before .before .before .before .before .before .before .before in
+    let s-now = ten-back .before .args .s .now in
+    let f-is = c .before .before .before .before .before .before .before .f .given .1 in
+    let read-frame-says = c .before .before .before .before .before .before .before .before .before .read-frame .ensures in
+    let c-is = c .before .before .before .before .c .given .1 in
+    let if1-left = c .before .before .if1 .left in
+    let read-frame-known = rw f-is at read-frame-says in
+    test-above s-now read-frame-known c-is if1-left (c .if2 .taken)
 
 returns-5 : tie.Need-returns-5
-returns-5 c = test-node (c .before .before .before .before .before .before .before .before .before .before .before .args .s .now) (rw (c .before .before .before .before .before .before .before .f .given .1) at (c .before .before .before .before .before .before .before .before .before .read-frame .ensures)) (c .before .before .before .before .c .given .1) (c .before .before .if1 .left) (c .if2 .left)
+returns-5 c =
+    let ten-back = c .before .before .before .before .before .before .before .before .before .before in
+    let s-now = ten-back .before .args .s .now in
+    let f-is = c .before .before .before .before .before .before .before .f .given .1 in
+    let read-frame-says = c .before .before .before .before .before .before .before .before .before .read-frame .ensures in
+    let c-is = c .before .before .before .before .c .given .1 in
+    let if1-left = c .before .before .if1 .left in
+    let read-frame-known = rw f-is at read-frame-says in
+    test-node s-now read-frame-known c-is if1-left (c .if2 .left)
 
 pub test-cursor-spec : {M : Type 1} → statement M
 test-cursor-spec =

@@ -1,5 +1,5 @@
 -- `neighbours::first_node`: where the head's lowest link leads.
-use Rattle.table.proofs.Adjacent.{first-damaged, first-found}
+use Rattle.table.proofs.NeighboursLaws.{first-damaged, first-found}
 use borrow.Author.Needs.{needs}
 use Rattle.table.proofs.neighbours.first_node.Statement.{statement}
 use Rattle.table.proofs.neighbours.first_node.Tie as tie

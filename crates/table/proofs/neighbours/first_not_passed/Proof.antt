@@ -1,5 +1,5 @@
 -- `neighbours::first_not_passed`: the node where the search stands.
-use Rattle.table.proofs.Adjacent.{stands-bad, stands-hit, stands-ends}
+use Rattle.table.proofs.NeighboursLaws.{stands-bad, stands-hit, stands-ends}
 use borrow.Author.Needs.{needs}
 use Rattle.table.proofs.neighbours.first_not_passed.Statement.{statement}
 use Rattle.table.proofs.neighbours.first_not_passed.Tie as tie

@@ -1,5 +1,5 @@
 -- `neighbours::last_before`: the node that the search passed last.
-use Rattle.table.proofs.Adjacent.{passed-bad, passed-hit, passed-ends}
+use Rattle.table.proofs.NeighboursLaws.{passed-bad, passed-hit, passed-ends}
 use borrow.Author.Needs.{needs}
 use Rattle.table.proofs.neighbours.last_before.Statement.{statement}
 use Rattle.table.proofs.neighbours.last_before.Tie as tie

@@ -1,6 +1,6 @@
 -- `nodes::header_holds`: it holds exactly if it was read.
 use mathlib.Core.Path.{sym}
-use Rattle.table.proofs.NodeBytes.{framed-holds}
+use Rattle.table.proofs.NodesLaws.{framed-holds}
 use borrow.Author.Needs.{needs}
 use Rattle.table.proofs.nodes.header_holds.Statement.{statement}
 use Rattle.table.proofs.nodes.header_holds.Tie as tie

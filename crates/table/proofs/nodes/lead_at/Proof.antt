@@ -1,5 +1,5 @@
 -- `nodes::lead_at`: each way out is a case of the definition.
-use Rattle.table.proofs.NodeBytes.{lead-header, lead-cut, lead-flat, lead-tall, lead-out, lead-bad, lead-whole}
+use Rattle.table.proofs.NodesLaws.{lead-header, lead-cut, lead-flat, lead-tall, lead-out, lead-bad, lead-whole}
 use borrow.Author.Needs.{needs}
 use Rattle.table.proofs.nodes.lead_at.Statement.{statement}
 use Rattle.table.proofs.nodes.lead_at.Tie as tie
@@ -41,7 +41,13 @@ add-end : tie.Need-add-end
 add-end c = search needs
 
 returns-5 : tie.Need-returns-5
-returns-5 c = lead-out _ _ _ (c .before .before .before .before .before .before .if1 .left) (c .before .before .before .before .before .if2 .left) (c .before .before .before .before .get-word .ensures .0) (c .before .before .before .if3 .left) (c .before .before .if4 .left) (c .before .get-word2 .ensures .0) (c .if5 .taken)
+returns-5 c =
+    let if1-left = c .before .before .before .before .before .before .if1 .left in
+    let if2-left = c .before .before .before .before .before .if2 .left in
+    let get-word-says-0 = c .before .before .before .before .get-word .ensures .0 in
+    let if3-left = c .before .before .before .if3 .left in
+    let if4-left = c .before .before .if4 .left in
+    lead-out _ _ _ if1-left if2-left get-word-says-0 if3-left if4-left (c .before .get-word2 .ensures .0) (c .if5 .taken)
 
 keyed-at-requires : tie.Need-keyed-at-requires
 keyed-at-requires c κs = search needs
@@ -53,10 +59,20 @@ enum-known-keyed-2 : tie.Need-enum-known-keyed-2
 enum-known-keyed-2 c = search needs
 
 returns-6 : tie.Need-returns-6
-returns-6 c = let d = c .before .before .before .before in lead-bad _ _ _ (d .before .before .before .before .before .before .if1 .left) (d .before .before .before .before .before .if2 .left) (d .before .before .before .before .get-word .ensures .0) (d .before .before .before .if3 .left) (d .before .before .if4 .left) (d .before .get-word2 .ensures .0) (d .if5 .left) (rw (c .before .keyed .given .1) at (c .before .before .before .keyed-at .ensures .0))
+returns-6 c =
+    let d = c .before .before .before .before in
+    let keyed-at-says-0 = c .before .before .before .keyed-at .ensures .0 in
+    lead-bad _ _ _ (d .before .before .before .before .before .before .if1 .left) (d .before .before .before .before .before .if2 .left)
+    (d .before .before .before .before .get-word .ensures .0) (d .before .before .before .if3 .left) (d .before .before .if4 .left)
+    (d .before .get-word2 .ensures .0) (d .if5 .left) (rw (c .before .keyed .given .1) at keyed-at-says-0)
 
 returns-7 : tie.Need-returns-7
-returns-7 c = let d = c .before .before .before .before in lead-whole _ _ _ (d .before .before .before .before .before .before .if1 .left) (d .before .before .before .before .before .if2 .left) (d .before .before .before .before .get-word .ensures .0) (d .before .before .before .if3 .left) (d .before .before .if4 .left) (d .before .get-word2 .ensures .0) (d .if5 .left) (rw (c .before .keyed2 .given .1) at (c .before .before .before .keyed-at .ensures .0))
+returns-7 c =
+    let d = c .before .before .before .before in
+    let keyed-at-says-0 = c .before .before .before .keyed-at .ensures .0 in
+    lead-whole _ _ _ (d .before .before .before .before .before .before .if1 .left) (d .before .before .before .before .before .if2 .left)
+    (d .before .before .before .before .get-word .ensures .0) (d .before .before .before .if3 .left) (d .before .before .if4 .left)
+    (d .before .get-word2 .ensures .0) (d .if5 .left) (rw (c .before .keyed2 .given .1) at keyed-at-says-0)
 
 pub lead-at-spec : {M : Type 1} → statement M
 lead-at-spec =

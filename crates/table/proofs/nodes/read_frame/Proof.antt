@@ -1,6 +1,6 @@
 -- `nodes::read_frame`: a test that fails is a part that the header lacks.
 use native.Mathlib.Omega.{arith}
-use Rattle.table.proofs.NodeBytes.{header-fails}
+use Rattle.table.proofs.NodesLaws.{header-fails}
 use borrow.Author.Needs.{needs}
 use Rattle.table.proofs.nodes.read_frame.Statement.{statement}
 use Rattle.table.proofs.nodes.read_frame.Tie as tie

@@ -1,6 +1,6 @@
 use Rattle.image.specs.Search.{toStop}
-use Rattle.table.proofs.Adjacent.{equal-numbered}
-use Rattle.table.proofs.Presences.{has, has-header, has-kind, has-number, has-key, has-damaged, has-hit, has-not}
+use Rattle.table.proofs.NeighboursLaws.{equal-numbered}
+use Rattle.table.proofs.PresenceLaws.{has, has-header, has-kind, has-number, has-key, has-damaged, has-hit, has-not}
 use borrow.Author.Needs.{needs}
 use Rattle.table.proofs.presence.contains.Statement.{statement}
 use Rattle.table.proofs.presence.contains.Tie as tie

@@ -1,5 +1,5 @@
 -- `presence::get_span`: the value of the node that the lookup found, or what it shows without one.
-use Rattle.table.proofs.Presences.{bare-else, shows-nothing, shows-found}
+use Rattle.table.proofs.PresenceLaws.{bare-else, shows-nothing, shows-found}
 use borrow.Author.Needs.{needs}
 use Rattle.table.proofs.presence.get_span.Statement.{statement}
 use Rattle.table.proofs.presence.get_span.Tie as tie

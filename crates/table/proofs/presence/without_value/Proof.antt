@@ -1,6 +1,6 @@
 use mathlib.Core.Path.{ap}
 use Rattle.table.specs.Memtable.{lookupAs}
-use Rattle.table.proofs.Presences.{bares-refused, bares-given}
+use Rattle.table.proofs.PresenceLaws.{bares-refused, bares-given}
 use borrow.Author.Needs.{needs}
 use Rattle.table.proofs.presence.without_value.Statement.{statement}
 use Rattle.table.proofs.presence.without_value.Tie as tie

@@ -1,4 +1,4 @@
-use Rattle.table.proofs.Asking.{behind-all, behind-from, behind-above, behind-below}
+use Rattle.table.proofs.QuestionsLaws.{behind-all, behind-from, behind-above, behind-below}
 use borrow.Author.Needs.{needs}
 use Rattle.table.proofs.questions.behind.Statement.{statement}
 use Rattle.table.proofs.questions.behind.Tie as tie

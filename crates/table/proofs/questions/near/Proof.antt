@@ -1,5 +1,5 @@
 use mathlib.Core.Path.{_∙_}
-use Rattle.table.proofs.Asking.{nears, near-header, near-at}
+use Rattle.table.proofs.QuestionsLaws.{nears, near-header, near-at}
 use borrow.Author.Needs.{needs}
 use Rattle.table.proofs.questions.near.Statement.{statement}
 use Rattle.table.proofs.questions.near.Tie as tie

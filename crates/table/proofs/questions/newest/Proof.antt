@@ -1,4 +1,4 @@
-use Rattle.table.proofs.Asking.{tells-newest, newest-header, newest-damaged, newest-said}
+use Rattle.table.proofs.QuestionsLaws.{tells-newest, newest-header, newest-damaged, newest-said}
 use borrow.Author.Needs.{needs}
 use Rattle.table.proofs.questions.newest.Statement.{statement}
 use Rattle.table.proofs.questions.newest.Tie as tie

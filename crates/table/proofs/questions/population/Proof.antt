@@ -1,5 +1,5 @@
 -- `questions::population`: the count of the header that was read, or none.
-use Rattle.table.proofs.Asking.{nodes-read, nodes-none}
+use Rattle.table.proofs.QuestionsLaws.{nodes-read, nodes-none}
 use borrow.Author.Needs.{needs}
 use Rattle.table.proofs.questions.population.Statement.{statement}
 use Rattle.table.proofs.questions.population.Tie as tie

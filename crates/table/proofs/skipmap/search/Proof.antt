@@ -2,7 +2,7 @@
 use Prim.Native.Nat.{_-_}
 use mathlib.Core.Path.{sym, ap, _∙_}
 use Rattle.table.specs.Skipmap.{modeOf, turnRead}
-use Rattle.table.proofs.Looking.{Looking, looking-start, looking-out, looking-over, looking-bad, looking-halt, looking-onward, looking-ends, looking-down}
+use Rattle.table.proofs.SkipmapLaws.{Looking, looking-start, looking-out, looking-over, looking-bad, looking-halt, looking-onward, looking-ends, looking-down}
 use borrow.Author.Needs.{needs}
 use Rattle.table.proofs.skipmap.search.Statement.{statement}
 use Rattle.table.proofs.skipmap.search.Tie as tie
@@ -35,7 +35,11 @@ bad-requires : tie.Need-bad-requires Inv-loop μ-loop
 bad-requires c κs = search needs
 
 returns : tie.Need-returns Inv-loop μ-loop
-returns c = rw (c .bad .ensures) (looking-over (c .before .before .before .before .loop .inv) (c .before .before .before .loop-test .taken) (c .before .before .get-word .ensures .0) (c .before .if1 .taken))
+returns c =
+    let loop-inv = c .before .before .before .before .loop .inv in
+    let loop-test-taken = c .before .before .before .loop-test .taken in
+    let get-word-says-0 = c .before .before .get-word .ensures .0 in
+    rw (c .bad .ensures) (looking-over loop-inv loop-test-taken get-word-says-0 (c .before .if1 .taken))
 
 meet-at-requires : tie.Need-meet-at-requires Inv-loop μ-loop
 meet-at-requires c κs = search needs
@@ -50,7 +54,14 @@ bad-requires-2 : tie.Need-bad-requires-2 Inv-loop μ-loop
 bad-requires-2 c κs = search needs
 
 returns-2 : tie.Need-returns-2 Inv-loop μ-loop
-returns-2 c = rw (c .bad2 .ensures) (looking-bad (c .before .before .before .before .before .before .before .before .loop .inv) (c .before .before .before .before .before .before .before .loop-test .taken) (c .before .before .before .before .before .before .get-word .ensures .0) (c .before .before .before .before .before .if1 .left) (sym (ap turnRead (c .before .before .turn .given .1)) ∙ c .before .before .before .before .meet-at .ensures .0))
+returns-2 c =
+    let loop-inv = c .before .before .before .before .before .before .before .before .loop .inv in
+    let loop-test-taken = c .before .before .before .before .before .before .before .loop-test .taken in
+    let get-word-says-0 = c .before .before .before .before .before .before .get-word .ensures .0 in
+    let if1-left = c .before .before .before .before .before .if1 .left in
+    let turn-is = c .before .before .turn .given .1 in
+    let meet-at-says-0 = c .before .before .before .before .meet-at .ensures .0 in
+    rw (c .bad2 .ensures) (looking-bad loop-inv loop-test-taken get-word-says-0 if1-left (sym (ap turnRead turn-is) ∙ meet-at-says-0))
 
 enum-told : tie.Need-enum-told Inv-loop μ-loop
 enum-told c = search needs
@@ -59,7 +70,13 @@ hit-requires : tie.Need-hit-requires Inv-loop μ-loop
 hit-requires c κs = search needs
 
 returns-3 : tie.Need-returns-3 Inv-loop μ-loop
-returns-3 c = rw (c .hit .ensures) (looking-halt (c .before .before .before .before .before .before .before .loop .inv) (c .before .before .before .before .before .before .loop-test .taken) (c .before .before .before .before .before .get-word .ensures .0) (c .before .before .before .before .if1 .left) (sym (ap turnRead (c .before .enum-told .given .1)) ∙ c .before .before .before .meet-at .ensures .0))
+returns-3 c =
+    let loop-inv = c .before .before .before .before .before .before .before .loop .inv in
+    let loop-test-taken = c .before .before .before .before .before .before .loop-test .taken in
+    let get-word-says-0 = c .before .before .before .before .before .get-word .ensures .0 in
+    let if1-left = c .before .before .before .before .if1 .left in
+    let meet-at-says-0 = c .before .before .before .meet-at .ensures .0 in
+    rw (c .hit .ensures) (looking-halt loop-inv loop-test-taken get-word-says-0 if1-left (sym (ap turnRead (c .before .enum-told .given .1)) ∙ meet-at-says-0))
 
 enum-known-turn-2 : tie.Need-enum-known-turn-2 Inv-loop μ-loop
 enum-known-turn-2 c = search needs
@@ -68,7 +85,14 @@ loop-less : tie.Need-loop-less Inv-loop μ-loop
 loop-less c = search needs
 
 loop-again : tie.Need-loop-again Inv-loop μ-loop
-loop-again c = looking-onward (c .before .before .before .before .before .before .before .loop .inv) (c .before .before .before .before .before .before .loop-test .taken) (c .before .before .before .before .before .get-word .ensures .0) (c .before .before .before .before .if1 .left) (sym (ap turnRead (c .before .turn2 .given .1)) ∙ c .before .before .before .meet-at .ensures .0) (rw (c .before .turn2 .given .1) at (c .before .before .before .meet-at .ensures .1))
+loop-again c =
+    let loop-inv = c .before .before .before .before .before .before .before .loop .inv in
+    let loop-test-taken = c .before .before .before .before .before .before .loop-test .taken in
+    let get-word-says-0 = c .before .before .before .before .before .get-word .ensures .0 in
+    let if1-left = c .before .before .before .before .if1 .left in
+    let meet-at-says-0 = c .before .before .before .meet-at .ensures .0 in
+    let meet-at-says-1 = c .before .before .before .meet-at .ensures .1 in
+    looking-onward loop-inv loop-test-taken get-word-says-0 if1-left (sym (ap turnRead (c .before .turn2 .given .1)) ∙ meet-at-says-0) (rw (c .before .turn2 .given .1) at meet-at-says-1)
 
 enum-told-2 : tie.Need-enum-told-2 Inv-loop μ-loop
 enum-told-2 c = search needs
@@ -83,7 +107,14 @@ ends-requires : tie.Need-ends-requires Inv-loop μ-loop
 ends-requires c κs = search needs
 
 returns-4 : tie.Need-returns-4 Inv-loop μ-loop
-returns-4 c = rw (c .ends .ensures) (looking-ends (c .before .before .before .before .before .before .before .before .loop .inv) (c .before .before .before .before .before .before .before .loop-test .taken) (c .before .before .before .before .before .before .get-word .ensures .0) (c .before .before .before .before .before .if1 .left) (sym (ap turnRead (c .before .before .enum-told2 .given .1)) ∙ c .before .before .before .before .meet-at .ensures .0) (c .before .if2 .taken))
+returns-4 c =
+    let loop-inv = c .before .before .before .before .before .before .before .before .loop .inv in
+    let loop-test-taken = c .before .before .before .before .before .before .before .loop-test .taken in
+    let get-word-says-0 = c .before .before .before .before .before .before .get-word .ensures .0 in
+    let if1-left = c .before .before .before .before .before .if1 .left in
+    let enum-told2-is = c .before .before .enum-told2 .given .1 in
+    let meet-at-says-0 = c .before .before .before .before .meet-at .ensures .0 in
+    rw (c .ends .ensures) (looking-ends loop-inv loop-test-taken get-word-says-0 if1-left (sym (ap turnRead enum-told2-is) ∙ meet-at-says-0) (c .before .if2 .taken))
 
 sub-level-2 : tie.Need-sub-level-2 Inv-loop μ-loop
 sub-level-2 c = search needs
@@ -92,7 +123,13 @@ loop-less-2 : tie.Need-loop-less-2 Inv-loop μ-loop
 loop-less-2 c = search needs
 
 loop-again-2 : tie.Need-loop-again-2 Inv-loop μ-loop
-loop-again-2 c = looking-down (c .before .before .before .before .before .before .before .loop .inv) (c .before .before .before .before .before .before .loop-test .taken) (c .before .before .before .before .before .get-word .ensures .0) (c .before .before .before .before .if1 .left) (sym (ap turnRead (c .before .enum-told2 .given .1)) ∙ c .before .before .before .meet-at .ensures .0) (c .if2 .left)
+loop-again-2 c =
+    let loop-inv = c .before .before .before .before .before .before .before .loop .inv in
+    let loop-test-taken = c .before .before .before .before .before .before .loop-test .taken in
+    let get-word-says-0 = c .before .before .before .before .before .get-word .ensures .0 in
+    let if1-left = c .before .before .before .before .if1 .left in
+    let meet-at-says-0 = c .before .before .before .meet-at .ensures .0 in
+    looking-down loop-inv loop-test-taken get-word-says-0 if1-left (sym (ap turnRead (c .before .enum-told2 .given .1)) ∙ meet-at-says-0) (c .if2 .left)
 
 mul-bad : tie.Need-mul-bad Inv-loop μ-loop
 mul-bad c = search needs

@@ -5,7 +5,7 @@ use mathlib.Core.Path.{_≡_, refl}
 use native.Mathlib.Omega.{arith}
 use lib.ListN.{length, take, length-set}
 use lib.Seq.{sets}
-use Rattle.table.proofs.Writing.{copied-next, copied-all}
+use Rattle.table.proofs.WordsLaws.{copied-next, copied-all}
 use Rattle.table.proofs.words.put_bytes.Statement.{statement}
 use Rattle.table.proofs.words.put_bytes.Tie as tie
 

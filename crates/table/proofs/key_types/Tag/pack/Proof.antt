@@ -1,5 +1,5 @@
 -- `Tag::pack`: the shift loses no bits, and the two parts of the or share none.
-use Rattle.table.proofs.Tags.{packed}
+use Rattle.table.proofs.KeyTypesLaws.{packed}
 use Rattle.table.proofs.key_types.Tag.pack.Statement.{statement}
 use Rattle.table.proofs.key_types.Tag.pack.Tie as tie
 

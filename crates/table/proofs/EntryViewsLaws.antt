@@ -23,8 +23,8 @@ use Rattle.table.specs.Refusals.{refusalIs}
 use Rattle.table.specs.Nodes.{Numbered, toNode}
 use Rattle.table.specs.MemtableIter.{cursorIs, Tested}
 use Rattle.table.specs.EntryViews.{partsOnAs, PartsOfNode, PartsOnIs, shownNumber, spanAs, Spans}
-use Rattle.table.proofs.Lookups.{parts-inside}
-use Rattle.table.proofs.Cursors.{test-refuses}
+use Rattle.table.proofs.MemtableLaws.{parts-inside}
+use Rattle.table.proofs.MemtableIterLaws.{test-refuses}
 use Rattle.table.specs.declared.refusals.Refusal.{Refusal}
 use Rattle.table.specs.declared.refusals.Refusal.the-variants as refusal
 use Rattle.table.specs.declared.nodes.Frame.{Frame}

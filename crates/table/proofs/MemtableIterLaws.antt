@@ -23,8 +23,8 @@ use Rattle.image.proofs.Landing.{move-lands}
 use Rattle.table.specs.Refusals.{refusalIs}
 use Rattle.table.specs.Nodes.{Framed, Numbered}
 use Rattle.table.specs.Neighbours.{neighbourAs}
-use Rattle.table.specs.MemtableIter.{cursorIs, Tested, landsOn, movedAs, HandsBack, Moves}
-use Rattle.table.proofs.NodeBytes.{framed-holds, node-links, node-link-inside}
+use Rattle.table.specs.MemtableIter.{cursorIs, Tested, landsOn, movedAs, HandsBack, MovesEntry}
+use Rattle.table.proofs.NodesLaws.{framed-holds, node-links, node-link-inside}
 use Rattle.table.specs.declared.nodes.Frame.{Frame}
 use Rattle.table.specs.declared.neighbours.Neighbour.{Neighbour}
 use Rattle.table.specs.declared.neighbours.Neighbour.the-variants.{Node as Neighbouring}
@@ -70,7 +70,8 @@ module _ (xs : List ℕ) where
         test-node h = rw e (holds, rw (le-leb 1 i some) (le-leb i (count xs) (omega (arith, framed .count-is))), framed)
 
 -- a test that failed refuses whatever comes behind it
-pub test-refuses : {A : Type 0} (xs : List ℕ) (c : Cursor) (q : Refusal) → Tested xs c (Failed q) → (a : Answer A) → refused (refusalIs q) ≡ demand (headerHolds xs) badImage (demand (inTable xs c) noNode a)
+pub test-refuses : {A : Type 0} (xs : List ℕ) (c : Cursor) (q : Refusal) → Tested xs c (Failed q) → (a : Answer A)
+    → refused (refusalIs q) ≡ demand (headerHolds xs) badImage (demand (inTable xs c) noNode a)
 test-refuses xs c q (inl (h, e)) a = rw (h, e)
 test-refuses xs c q (inr (h, i, e)) a = rw (h, i, e)
 
@@ -80,7 +81,9 @@ module _ (xs : List ℕ) (c : Cursor) {t : CursorTest} (tested : Tested xs c t) 
   ready = (rw passed at tested) .2
 
   pub numbered : {i : ℕ} → c ≡ on i → Numbered xs f i
-  numbered {i} e = let (a, b) = both-true (leb 1 i) (leb i (count xs)) (rw e at ((rw passed at tested) .1)) in record { framed = ready; some = leb-true 1 i a; most = omega (arith, leb-true i (count xs) b, ready .count-is) }
+  numbered {i} e =
+      let (a, b) = both-true (leb 1 i) (leb i (count xs)) (rw e at ((rw passed at tested) .1)) in
+      record { framed = ready; some = leb-true 1 i a; most = omega (arith, leb-true i (count xs) b, ready .count-is) }
 
 -- ---- the end of a move
 
@@ -141,13 +144,14 @@ module _ (xs : List ℕ) (i : ℕ) where
         pub next-lands : x ≤ f .count → {r : Answer Cursor} → ((o : ℕ) → r ≡ reading (landingAfter xs (m .parts .keyed) o (cursorAt x)) given) → r ≡ reading (moved xs next (on i)) given
         next-lands h e = e (linkPlace xs i 0) ∙ rw (← node, link-is, le-leb x (count xs) (omega (arith, n .framed .count-is)))
 
-    pub previous-searches : {k : List ℕ} {n : ℕ} → k ≡ keyIn xs (m .parts .keyed) → n ≡ numberIn (m .parts .keyed) → {r : Answer Cursor} → r ≡ reading (lastBefore xs k n) given → r ≡ reading (moved xs previous (on i)) given
+    pub previous-searches : {k : List ℕ} {n : ℕ} → k ≡ keyIn xs (m .parts .keyed) → n ≡ numberIn (m .parts .keyed) → {r : Answer Cursor}
+        → r ≡ reading (lastBefore xs k n) given → r ≡ reading (moved xs previous (on i)) given
     previous-searches p q e = e ∙ rw (p, q, ← node)
 
 -- ---- the answers
 
 -- what a move means follows from what it is
-moves : (xs : List ℕ) (m : EntryMove) (c : EntryCursor) (r : EntryMoved) → movedAs r ≡ entryMove xs m (cursorIs c) → HandsBack c r → Moves xs m c r
+moves : (xs : List ℕ) (m : EntryMove) (c : EntryCursor) (r : EntryMoved) → movedAs r ≡ entryMove xs m (cursorIs c) → HandsBack c r → MovesEntry xs m c r
 moves xs m c r e h = record {
   exact = e;
   handed = h;
@@ -156,23 +160,26 @@ moves xs m c r e h = record {
 }
 
 module _ (xs : List ℕ) (m : EntryMove) (c : EntryCursor) {t : CursorTest} (tested : Tested xs (cursorIs c) t) where
-  pub move-refused : {q : Refusal} → t ≡ Failed q → Moves xs m c (Refused q c)
+  pub move-refused : {q : Refusal} → t ≡ Failed q → MovesEntry xs m c (Refused q c)
   unfolding entryMove
   move-refused {q} e = moves xs m c (Refused q c) (test-refuses xs (cursorIs c) q (rw e at tested) _) refl
 
   -- a move whose arguments are allowed
-  pub move-made : {f : Frame} → t ≡ Passed f → ((a : Answer Cursor) → allowed m a ≡ a) → (r : EntryMoved) {g : Answer Cursor} → movedAs r ≡ g → {d : EntryCursor} → c ≡ d → HandsBack d r → g ≡ reading (moved xs m (cursorIs d)) given → Moves xs m c r
+  pub move-made : {f : Frame} → t ≡ Passed f → ((a : Answer Cursor) → allowed m a ≡ a) → (r : EntryMoved) {g : Answer Cursor} → movedAs r ≡ g → {d : EntryCursor}
+      → c ≡ d → HandsBack d r → g ≡ reading (moved xs m (cursorIs d)) given → MovesEntry xs m c r
   unfolding entryMove
-  move-made e ok r g same h f = let (a, b, _) = rw e at tested in moves xs m c r (g ∙ f ∙ ap (λ (d : EntryCursor). reading (moved xs m (cursorIs d)) given) (sym same) ∙ sym (rw (a, b) (ok _))) (rw same h)
+  move-made e ok r g same h f =
+      let (a, b, _) = rw e at tested in
+      moves xs m c r (g ∙ f ∙ ap (λ (d : EntryCursor). reading (moved xs m (cursorIs d)) given) (sym same) ∙ sym (rw (a, b) (ok _))) (rw same h)
 
 -- the two tests of a seek
 module _ (xs k : List ℕ) (n : ℕ) (c : EntryCursor) {t : CursorTest} (tested : Tested xs (cursorIs c) t) {f : Frame} (passed : t ≡ Passed f) {b : Bool} (number : b ≡ leb n maxNumber) where
-  pub seek-number : not b ≡ true → Moves xs (seek k n) c (Refused refusal.BadNumber c)
+  pub seek-number : not b ≡ true → MovesEntry xs (seek k n) c (Refused refusal.BadNumber c)
   unfolding entryMove
   seek-number h = let (a, d, _) = rw passed at tested in moves xs (seek k n) c (Refused refusal.BadNumber c) (rw (a, d, sym number ∙ not-true b h)) refl
 
   module _ (low : not b ≡ false) where
-    pub seek-key : maxKey < length k → Moves xs (seek k n) c (Refused refusal.LongKey c)
+    pub seek-key : maxKey < length k → MovesEntry xs (seek k n) c (Refused refusal.LongKey c)
     unfolding entryMove
     seek-key h = let (a, d, _) = rw passed at tested in moves xs (seek k n) c (Refused refusal.LongKey c) (rw (a, d, sym number ∙ not-false b low, lt-leb (length k) maxKey h)) refl
 

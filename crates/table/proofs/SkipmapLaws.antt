@@ -26,7 +26,7 @@ use Rattle.table.specs.Skipmap.{Searches}
 use Rattle.table.specs.declared.nodes.Frame.{Frame}
 use Rattle.table.specs.declared.skipmap.Spot.{Spot}
 use Rattle.table.specs.declared.skipmap.Spot.the-variants.{Hit, Ends, Bad}
-use Rattle.table.proofs.NodeBytes.{lead-inside, good-inside}
+use Rattle.table.proofs.NodesLaws.{lead-inside, good-inside}
 
 -- ---- what a link says
 
@@ -107,20 +107,24 @@ module _ (look : ℕ → ℕ → Read Turn) (link place : ℕ → ℕ → ℕ) (
 
 -- the place that is in hand at a level, beside those of the levels above
 placed-more : (xs prev places : List ℕ) (level before place : ℕ) → length prev ≡ levels → length places ≡ levels → level < levels → place ≡ linkPlace xs before level
-    → ((l : ℕ) → level < l → l < levels → getD places l 0 ≡ linkPlace xs (getD prev l 0) l) → (l : ℕ) → level ≤ l → l < levels → getD (set places level place) l 0 ≡ linkPlace xs (getD (set prev level before) l 0) l
+    → ((l : ℕ) → level < l → l < levels → getD places l 0 ≡ linkPlace xs (getD prev l 0) l) → (l : ℕ) → level ≤ l → l < levels → getD (set places level place) l 0 ≡
+    linkPlace xs (getD (set prev level before) l 0) l
 placed-more xs prev places level before place r pr low p h l a b = go (ℕ-discrete l level)
   where
     go : Dec (l ≡ level) → getD (set places level place) l 0 ≡ linkPlace xs (getD (set prev level before) l 0) l
     go (yes z) = rw (z, getD-set-same places level place 0 (omega arith), getD-set-same prev level before 0 (omega arith)) p
     go (no z) = rw (getD-set-other places level l place 0 z, getD-set-other prev level l before 0 z) (h l (omega arith) b)
 
-module _ {xs : List ℕ} {f : Frame} {mode : OnEqual} {k : List ℕ} {s n most : ℕ} {places : List ℕ} {before links level looks : ℕ} (g : Looking xs f mode k s n most places before links level looks) where
+module _ {xs : List ℕ} {f : Frame} {mode : OnEqual} {k : List ℕ} {s n most : ℕ} {places : List ℕ} {before links level looks : ℕ}
+    (g : Looking xs f mode k s n most places before links level looks) where
   abbrev Answer : Spot → List ℕ → Type 0
   Answer spot places = Searches xs mode k s (record { spot = spot; places = places })
 
   -- no look is left
   pub looking-out : most ≤ looks → Answer (Bad (links + 4 * level)) places
-  looking-out h = let z : most - looks ≡ 0 = omega arith in record { prev = g .prev; exact = sym (g .same ∙ rw (z, find-none (look xs mode k s) (linkOf xs) (linkPlace xs) before level looks (g .prev), g .links-are)); placed = tt }
+  looking-out h =
+      let z : most - looks ≡ 0 = omega arith in
+      record { prev = g .prev; exact = sym (g .same ∙ rw (z, find-none (look xs mode k s) (linkOf xs) (linkPlace xs) before level looks (g .prev), g .links-are)); placed = tt }
 
   module _ (some : looks < most) {x : ℕ} (is : x ≡ word xs (links + 4 * level)) where
     link-is : linkOf xs before level ≡ x
@@ -133,7 +137,13 @@ module _ {xs : List ℕ} {f : Frame} {mode : OnEqual} {k : List ℕ} {s n most :
     -- a link above n
     pub looking-over : n < x → Answer (Bad (links + 4 * level)) places
     unfolding look
-    looking-over h = record { prev = g .prev; exact = sym (from ∙ find-bad (look xs mode k s) (linkOf xs) (linkPlace xs) (most - (looks + 1)) before level looks (g .prev) (links + 4 * level) (rw (link-is, lt-leb x (count xs) (omega (arith, g .count-is)), g .links-are))); placed = tt }
+    looking-over h =
+        record {
+          prev = g .prev;
+          exact = sym (from ∙ find-bad (look xs mode k s) (linkOf xs) (linkPlace xs) (most - (looks + 1)) before level looks (g .prev)
+              (links + 4 * level) (rw (link-is, lt-leb x (count xs) (omega (arith, g .count-is)), g .links-are)));
+          placed = tt;
+        }
 
     module _ (low : x ≤ n) where
       look-is : (t : Read Turn) → t ≡ meet xs mode k s level (links + 4 * level) x → look xs mode k s before level ≡ t
@@ -141,10 +151,17 @@ module _ {xs : List ℕ} {f : Frame} {mode : OnEqual} {k : List ℕ} {s n most :
       look-is t e = rw (link-is, le-leb x (count xs) (omega (arith, g .count-is)), ← g .links-are) (sym e)
 
       pub looking-bad : {p : ℕ} → bad p ≡ meet xs mode k s level (links + 4 * level) x → Answer (Bad p) places
-      looking-bad {p} e = record { prev = g .prev; exact = sym (from ∙ find-bad (look xs mode k s) (linkOf xs) (linkPlace xs) (most - (looks + 1)) before level looks (g .prev) p (look-is (bad p) e)); placed = tt }
+      looking-bad {p} e =
+          record { prev = g .prev; exact = sym (from ∙ find-bad (look xs mode k s) (linkOf xs) (linkPlace xs) (most - (looks + 1)) before level looks (g .prev) p (look-is (bad p) e)); placed = tt }
 
       pub looking-halt : got halt ≡ meet xs mode k s level (links + 4 * level) x → Answer (Hit x (looks + 1)) places
-      looking-halt e = record { prev = g .prev; exact = sym (from ∙ find-halt (look xs mode k s) (linkOf xs) (linkPlace xs) (most - (looks + 1)) before level looks (g .prev) (look-is (got halt) e) ∙ rw (link-is, add-one looks)); placed = tt }
+      looking-halt e =
+          record {
+            prev = g .prev;
+            exact = sym (from ∙ find-halt (look xs mode k s) (linkOf xs) (linkPlace xs) (most - (looks + 1)) before level looks (g .prev)
+                (look-is (got halt) e) ∙ rw (link-is, add-one looks));
+            placed = tt;
+          }
 
       pub looking-onward : got onward ≡ meet xs mode k s level (links + 4 * level) x → {links′ : ℕ} → links′ ≡ linksAt xs x → Looking xs f mode k s n most places x links′ level (looks + 1)
       looking-onward e z = record {

@@ -18,7 +18,7 @@ use Rattle.table.specs.declared.refusals.Refusal.the-variants.{BadImage, BadKin
 use Rattle.table.proofs.Laws.{node-held, node-single}
 use Rattle.table.proofs.OneAnswer.{refusalFrom, refusal-back}
 use Rattle.cursor.proofs.Merging.{known}
-use Rattle.cursor.specs.Places.{all, place, entryAt}
+use Rattle.cursor.specs.Places.{allEntries, place, entryAt}
 use Rattle.cursor.specs.Walks.{Gives}
 use Rattle.cursor.specs.Moves.{asked, keyGiven, startKey, MovedIs, movedTo, movedAs, LeadsTo, Moves, Decided}
 use Rattle.cursor.specs.Pairs.{PairSays, found, deleted, absent, PairLooked, pairAs, GetsPair}
@@ -51,11 +51,11 @@ module _ (f g : List ℕ) (x : Sound f) (y : Sound g) (s : ℕ) where
       go Second i Second j a b = ap (place Second) (same g y i j (a .inside) (b .inside) (cc (a .newest-is, b .newest-is)))
       go First i Second j a b =
           let e : entryOf f i ≡ entryOf g j = cc (a .newest-is, b .newest-is) in
-          let t = true-fits k s (entryOf f i) (known k s (all f g) (some (entryOf f i)) (a .newest-is) .1) in
+          let t = true-fits k s (entryOf f i) (known k s (allEntries f g) (some (entryOf f i)) (a .newest-is) .1) in
           absurd (omega (arith, b .first (entryOf f i) (node-held f i (a .inside)) t, ap (λ (d : Entry). d .number) e))
       go Second i First j a b =
           let e : entryOf f j ≡ entryOf g i = cc (a .newest-is, b .newest-is) in
-          let t = true-fits k s (entryOf f j) (known k s (all f g) (some (entryOf f j)) (b .newest-is) .1) in
+          let t = true-fits k s (entryOf f j) (known k s (allEntries f g) (some (entryOf f j)) (b .newest-is) .1) in
           absurd (omega (arith, a .first (entryOf f j) (node-held f j (b .inside)) t, ap (λ (d : Entry). d .number) e))
 
   leads-one : (t : Maybe (List ℕ)) (a b : MovedIs) → LeadsTo f g s t a → LeadsTo f g s t b → a ≡ b
@@ -91,7 +91,7 @@ move-one v f g s c (inl (o, e)) r q a b = moved-one r q (a .refused o e ∙ sym 
 move-one v f g s c (inr (x, y)) r q a b = moved-one r q (go (asked f g s c (keyGiven v)) refl)
   where
     go : (w : Answer {0} Unit) → asked f g s c (keyGiven v) ≡ w → movedAs r ≡ movedAs q
-    go (given tt) e = leads-one f g x y s (target v s (startKey f g c) (all f g)) (movedAs r) (movedAs q) (a .rule e x y) (b .rule e x y)
+    go (given tt) e = leads-one f g x y s (target v s (startKey f g c) (allEntries f g)) (movedAs r) (movedAs q) (a .rule e x y) (b .rule e x y)
     go (refused o) e = a .refused o e ∙ sym (b .refused o e)
 
 -- every refusal has a number
@@ -108,8 +108,8 @@ no-refusal damaged e = omega arith
 no-refusal noNode e = omega arith
 
 -- what the views show at the place is the row by the rule
-pub gives-row : (f g : List ℕ) (s : ℕ) (k : List ℕ) (p : Place) → Gives f g s k p → (entryAt f g p .key ≡ k) × (row k s (all f g) ≡ some (valueIn (entryAt f g p)))
-gives-row f g s k p h = (known k s (all f g) (some (entryAt f g p)) (h .newest-is) .1 .key, rw (h .newest-is, h .value-is))
+pub gives-row : (f g : List ℕ) (s : ℕ) (k : List ℕ) (p : Place) → Gives f g s k p → (entryAt f g p .key ≡ k) × (row k s (allEntries f g) ≡ some (valueIn (entryAt f g p)))
+gives-row f g s k p h = (known k s (allEntries f g) (some (entryAt f g p)) (h .newest-is) .1 .key, rw (h .newest-is, h .value-is))
 
 -- ---- the pair lookup and the views
 

@@ -25,7 +25,8 @@ pub entry-sized : {k v a b : ℕ} → (a ≡ length (varint (k + 8))) × (a ≤ 
 entry-sized {k} {v} {a} {b} (p, p2) (q, q2) = record { is = λ e f g. rw (p, q, ← f, ← g) (omega (arith, length-encode 0 e)); most = omega arith }
 
 -- the parts have room where the entry has
-pub room : {xs : List ℕ} {at : ℕ} {e : Entry} → Writable xs at e → at + length (varint (length (e .key) + 8)) + length (e .key) + 8 + length (varint (length (e .value))) + length (e .value) ≤ length xs
+pub room : {xs : List ℕ} {at : ℕ} {e : Entry} → Writable xs at e
+    → at + length (varint (length (e .key) + 8)) + length (e .key) + 8 + length (varint (length (e .value))) + length (e .value) ≤ length xs
 room {xs} {at} {e} w = omega (arith, length-encode at e, w .room)
 
 -- the five parts, each behind the one before
@@ -121,5 +122,6 @@ module _ (xs : List ℕ) (end : ℕ) (k : Keyed) where
 -- ---- compared
 
 -- two entries by their keys and numbers, where they stand
-pub less-by : (xs : List ℕ) (k l : Keyed) {a b : List ℕ} {m n : ℕ} → a ≡ keyIn xs k → m ≡ numberIn k → b ≡ keyIn xs l → n ≡ numberIn l → {o : Ord} → o ≡ compareEntries a m b n → isLess o ≡ isLess (compareKeyed xs k l)
+pub less-by : (xs : List ℕ) (k l : Keyed) {a b : List ℕ} {m n : ℕ} → a ≡ keyIn xs k → m ≡ numberIn k → b ≡ keyIn xs l → n ≡ numberIn l → {o : Ord}
+    → o ≡ compareEntries a m b n → isLess o ≡ isLess (compareKeyed xs k l)
 less-by xs k l ka km lb ln e = ap isLess e ∙ rw (ka, km, lb, ln)

@@ -35,8 +35,8 @@ use Rattle.table.specs.Neighbours.{stood, standsAt}
 use Rattle.table.specs.Memtable.{lookupAs, Gets}
 use Rattle.table.specs.EntryViews.{spanAs, SpanLies, Spans}
 use Rattle.table.specs.Presence.{presenceAs, Contains, saidSpan, foundSpan, bareSpan, Bares, RowAt, ShowsRow}
-use Rattle.table.proofs.NodeBytes.{framed-holds}
-use Rattle.table.proofs.Adjacent.{failed, equal-hit, other-ends}
+use Rattle.table.proofs.NodesLaws.{framed-holds}
+use Rattle.table.proofs.NeighboursLaws.{failed, equal-hit, other-ends}
 use Rattle.table.specs.declared.refusals.Refusal.{Refusal}
 use Rattle.table.specs.declared.nodes.Frame.{Frame}
 use Rattle.table.specs.declared.memtable.Lookup.{Lookup}

@@ -31,8 +31,10 @@ header-fails xs n = go (headerHolds xs) refl
     go false e = refl
 
 -- a header that passes every test
-pub header-read : (xs : List ℕ) {n used : ℕ} → n ≡ count xs → used ≡ free xs → headerSize ≤ length xs → length xs ≤ maxImage → word xs 0 ≡ length xs → word xs 12 ≡ levels → n ≤ maxNodes → headerSize ≤ used → used + 4 * n ≤ length xs → Framed xs (record { count = n; free = used })
-header-read xs c f long short total leveled few low high = record { header = record { long = long; short = short; total = total; leveled = leveled; few = omega arith; low = omega arith; high = omega arith }; count-is = c; free-is = f }
+pub header-read : (xs : List ℕ) {n used : ℕ} → n ≡ count xs → used ≡ free xs → headerSize ≤ length xs → length xs ≤ maxImage → word xs 0 ≡ length xs
+    → word xs 12 ≡ levels → n ≤ maxNodes → headerSize ≤ used → used + 4 * n ≤ length xs → Framed xs (record { count = n; free = used })
+header-read xs c f long short total leveled few low high =
+    record { header = record { long = long; short = short; total = total; leveled = leveled; few = omega arith; low = omega arith; high = omega arith }; count-is = c; free-is = f }
 
 -- a header that was read holds
 pub framed-holds : (xs : List ℕ) {f : Frame} → Framed xs f → headerHolds xs ≡ true
@@ -68,11 +70,14 @@ module _ (xs : List ℕ) (limit o : ℕ) where
           module _ (inside : entryPlace o height + len ≤ limit) where
             pub lead-bad : {p : ℕ} → bad p ≡ keyedAt xs (entryPlace o height) (entryPlace o height + len) → bad p ≡ leadAt xs limit o
             unfolding leadAt
-            lead-bad e = rw (← first, ← second, le-leb headerSize o behind, le-leb (o + 8) limit room, le-leb 1 height some, le-leb height levels most, le-leb (entryPlace o height + len) limit inside, ← e)
+            lead-bad e =
+                rw (← first, ← second, le-leb headerSize o behind, le-leb (o + 8) limit room, le-leb 1 height some, le-leb height levels most, le-leb (entryPlace o height + len) limit inside, ← e)
 
-            pub lead-whole : {k : Keyed} → got k ≡ keyedAt xs (entryPlace o height) (entryPlace o height + len) → got (record { start = o; height = height; keyed = k; end = entryPlace o height + len }) ≡ leadAt xs limit o
+            pub lead-whole : {k : Keyed} → got k ≡ keyedAt xs (entryPlace o height) (entryPlace o height + len)
+                → got (record { start = o; height = height; keyed = k; end = entryPlace o height + len }) ≡ leadAt xs limit o
             unfolding leadAt
-            lead-whole e = rw (← first, ← second, le-leb headerSize o behind, le-leb (o + 8) limit room, le-leb 1 height some, le-leb height levels most, le-leb (entryPlace o height + len) limit inside, ← e)
+            lead-whole e =
+                rw (← first, ← second, le-leb headerSize o behind, le-leb (o + 8) limit room, le-leb 1 height some, le-leb height levels most, le-leb (entryPlace o height + len) limit inside, ← e)
 
 -- a lead that was read ends in the image, and its key and tag before its end
 pub lead-inside : (xs : List ℕ) (limit o : ℕ) {m : Lead} → limit ≤ length xs → got m ≡ leadAt xs limit o → (m .end ≤ length xs) × (m .keyed .keyAt + m .keyed .keyLen + 8 ≤ m .end)
@@ -104,7 +109,9 @@ good-inside xs i level h b (inr (p, q, (m, g, c))) = let d = lead-bounds xs (fre
 
 -- the same of a node that was read whole, and its lowest link lies in the image
 node-bounds : (xs : List ℕ) (i : ℕ) {n : Node} → got n ≡ nodeAt xs i → (n .start ≡ slot xs i) × (slot xs i + 12 ≤ free xs)
-node-bounds xs i {n} e = let (m, g, f) = bind-got (leadOf xs i) (nodeFrom xs) n (sym e) in let (p, r, h) = bind-got (restAt xs (m .end) (m .keyed)) (λ q. got (record { start = m .start; height = m .height; parts = q; end = m .end })) n f in
+node-bounds xs i {n} e =
+    let (m, g, f) = bind-got (leadOf xs i) (nodeFrom xs) n (sym e) in
+    let (p, r, h) = bind-got (restAt xs (m .end) (m .keyed)) (λ q. got (record { start = m .start; height = m .height; parts = q; end = m .end })) n f in
     let b = lead-bounds xs (free xs) (slot xs i) m g in (ap (λ (q : Node). q .start) (sym (got-same h)) ∙ b .start-is, omega (arith, b .links-inside, b .some-height))
 
 pub node-links : (xs : List ℕ) (i : ℕ) {n : Node} → 1 ≤ i → got n ≡ nodeAt xs i → n .start + 8 ≡ linksAt xs i

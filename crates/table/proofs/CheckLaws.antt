@@ -14,7 +14,7 @@ use Rattle.rule.specs.Entries.{Entry, order}
 use Rattle.image.specs.Limits.{headerSize, levels}
 use Rattle.image.specs.Words.{Bytes, word}
 use Rattle.image.specs.Readers.{got, bad, bind}
-use Rattle.image.specs.Entries.{keyIn, numberIn, compareKeyed, entryIn}
+use Rattle.image.specs.Entries.{keyIn, numberIn, compareKeyed, entryIn, Keyed as KeyedIs}
 use Rattle.image.specs.Nodes.{count, free, slot, leadAt, Lead, Node, nodeFrom, leadOf, heightOf, entryOf, linksAt, linkOf}
 use Rattle.image.specs.Sound.{headerHolds}
 use Rattle.image.specs.Meaning.{IsNode}
@@ -22,7 +22,6 @@ use Rattle.image.specs.Check.{nodesRun, allMeet, stepped, mayFollow, threads, h
 use Rattle.image.proofs.Readers.{bad-got, got-same}
 use Rattle.image.proofs.Nodes.{leadFor, nodeFor, lead-read, node-entry, Bounds, lead-bounds}
 use Rattle.image.proofs.Check.{run-sound, length-stepped, check-sound, check-complete}
-use Rattle.image.specs.Entries.{Keyed as KeyedIs}
 use Rattle.table.specs.Entries.{keyedOf}
 use Rattle.table.specs.Nodes.{Framed, toLead}
 use Rattle.table.specs.Check.{Checked, Whole, LinksInside, StepsTo, KeyInside, MetInside, metBefore}
@@ -30,7 +29,7 @@ use Rattle.table.specs.declared.nodes.Frame.{Frame}
 use Rattle.table.specs.declared.nodes.Lead.{Lead as LeadCode}
 use Rattle.table.specs.declared.check.Met.{Met}
 use Rattle.table.specs.declared.check.Met.the-variants.{Head, Node as NodeMet}
-use Rattle.table.proofs.NodeBytes.{framed-holds, lead-links}
+use Rattle.table.proofs.NodesLaws.{framed-holds, lead-links}
 
 -- one is left, and the others
 one-left : {n : ℕ} → 0 < n → n ≡ suc (n - 1)
@@ -145,7 +144,8 @@ module _ (xs : List ℕ) (i : ℕ) (w : Whole xs) (n : IsNode xs i) where
     key-inside = omega (arith, bounds .key-inside, bounds .end-inside, w .header .high)
 
 -- two leads are in the order of the entries
-leads-order : (xs : List ℕ) (i j : ℕ) → Whole xs → IsNode xs i → IsNode xs j → {m n : Lead} → got m ≡ leadOf xs i → got n ≡ leadOf xs j → compareKeyed xs (m .keyed) (n .keyed) ≡ order (entryOf xs i) (entryOf xs j)
+leads-order : (xs : List ℕ) (i j : ℕ) → Whole xs → IsNode xs i → IsNode xs j → {m n : Lead} → got m ≡ leadOf xs i → got n ≡ leadOf xs j
+    → compareKeyed xs (m .keyed) (n .keyed) ≡ order (entryOf xs i) (entryOf xs j)
 leads-order xs i j w ni nj gi gj = rw (key-here xs i w ni gi, number-here xs i w ni gi, key-here xs j w nj gj, number-here xs j w nj gj)
 
 -- ---- the walk along the chains
@@ -178,7 +178,8 @@ module _ (xs : List ℕ) {left : ℕ} {last : Met} {next : List ℕ} (q : Walkin
   walk-ends h e = let none : left ≡ 0 = omega arith in rw (q .same, none, e)
 
   module _ (more : 0 < left) {x : ℕ} (first : x ≡ getD next 0 0) {n : ℕ} (all : n ≡ count xs) where
-    this-walk : threads xs (count xs) 0 (heads xs) ≡ both (both (leb 1 x) (leb x n)) (both (both (allMeet next x (heightOf xs x)) (mayFollow xs (q .node) x)) (threads xs (left - 1) x (stepped xs x next (heightOf xs x))))
+    this-walk : threads xs (count xs) 0 (heads xs) ≡ both (both (leb 1 x) (leb x n))
+        (both (both (allMeet next x (heightOf xs x)) (mayFollow xs (q .node) x)) (threads xs (left - 1) x (stepped xs x next (heightOf xs x))))
     this-walk = q .same ∙ ap (λ (k : ℕ). threads xs k (q .node) next) (one-left more) ∙ rw (first, all)
 
     pub walk-none : x < 1 → false ≡ threads xs (count xs) 0 (heads xs)

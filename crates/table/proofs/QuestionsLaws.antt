@@ -22,10 +22,10 @@ use Rattle.table.specs.declared.neighbours.Neighbour.{Neighbour}
 use Rattle.table.specs.declared.questions.Hit.{Hit}
 use Rattle.table.specs.declared.questions.NewestAt.{NewestAt}
 use Rattle.table.specs.declared.nodes.Frame.{Frame}
-use Rattle.table.proofs.NodeBytes.{framed-holds}
+use Rattle.table.proofs.NodesLaws.{framed-holds}
 use Rattle.table.specs.Neighbours.{Beside, stood, standsAt, passedAt, firstAt, Finds}
-use Rattle.table.proofs.Adjacent.{ended-on, failed, lands-standing, lands-passed, lands-first}
-use Rattle.table.proofs.Lookups.{read-on}
+use Rattle.table.proofs.NeighboursLaws.{ended-on, failed, lands-standing, lands-passed, lands-first}
+use Rattle.table.proofs.MemtableLaws.{read-on}
 
 -- ---- what an answer means follows from what it is
 
@@ -95,7 +95,8 @@ module _ (xs : List ℕ) where
       newest-damaged e = let (o, b) = failed stood (searched xs toStop k s) e in rw (holds, ← b)
 
       -- at the node where the search stands
-      pub newest-said : {b : Beside} → given b ≡ standsAt xs toStop k s → {m : Answer Looked} → m ≡ reading (saidAt xs k (b .node)) given → {a : Answer NewestAtIs} → a ≡ andThen m (λ l. given (withNode (b .node) l)) → a ≡ newestAt xs k s
+      pub newest-said : {b : Beside} → given b ≡ standsAt xs toStop k s → {m : Answer Looked} → m ≡ reading (saidAt xs k (b .node)) given → {a : Answer NewestAtIs}
+          → a ≡ andThen m (λ l. given (withNode (b .node) l)) → a ≡ newestAt xs k s
       unfolding newestAt
       newest-said {b} e h f =
           read-on (saidAt xs k (b .node)) (λ l. given (withNode (b .node) l)) h f ∙ ended-on (searched xs toStop k s) e (λ d. reading (saidAt xs k (d .node)) (λ l. given (withNode (d .node) l)))

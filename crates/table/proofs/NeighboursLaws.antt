@@ -106,7 +106,8 @@ other-ends r {x} {looks} {same} e t = let (q, g, b) = ended stood r e in let (p,
     go (ends p y l prev) b = let i = ap (λ (d : Beside). d .node) b in let j = ap (λ (d : Beside). d .looks) b in (p, prev, rw (i, j))
 
 -- so it is a node
-pub equal-numbered : (xs : List ℕ) (mode : OnEqual) (k : List ℕ) (n : ℕ) {f : Frame} {x looks : ℕ} {same : Bool} → Finds xs f (standsAt xs mode k n) (Node x same looks) → not same ≡ false → Numbered xs f x
+pub equal-numbered : (xs : List ℕ) (mode : OnEqual) (k : List ℕ) (n : ℕ) {f : Frame} {x looks : ℕ} {same : Bool}
+    → Finds xs f (standsAt xs mode k n) (Node x same looks) → not same ≡ false → Numbered xs f x
 equal-numbered xs mode k n f t = record { framed = f .inside .framed; some = (search-stopped xs mode k n (equal-hit (searched xs mode k n) (f .exact) t)) .some; most = f .inside .most }
 
 -- ---- the end of a move on a neighbour
@@ -126,6 +127,7 @@ module _ (xs : List ℕ) where
     pub lands-first : a ≡ firstAt xs → c ≡ reading (firstEntry xs) given
     lands-first e = lands ∙ ap (landsOn xs) e ∙ by-test (leb (linkOf xs 0 0) (count xs))
       where
-        by-test : (t : Bool) → landsOn xs (demand t damaged (given (record { node = linkOf xs 0 0; equal = false; looks = 1 }))) ≡ reading (bind (check t (linkPlace xs 0 0) (got (cursorAt (linkOf xs 0 0)))) (landing xs)) given
+        by-test : (t : Bool)
+            → landsOn xs (demand t damaged (given (record { node = linkOf xs 0 0; equal = false; looks = 1 }))) ≡ reading (bind (check t (linkPlace xs 0 0) (got (cursorAt (linkOf xs 0 0)))) (landing xs)) given
         by-test true = refl
         by-test false = refl
