@@ -1,4 +1,4 @@
--- Where moves and questions end, on any bytes: on a node that can be read whole, and onward of where they started.
+-- Where moves end, on any bytes: on a node that can be read whole, and onward of where they started.
 use Prim.Native.Nat.{ℕ, zero, suc, _+_, _-_, _%_, _≤_}
 use native.Mathlib.Omega.{arith}
 use mathlib.Core.Path.{_≡_, refl, sym, ap, _∙_}
@@ -7,34 +7,28 @@ use mathlib.Core.List.{List}
 use mathlib.Core.Bool.{Bool, true, false, not}
 use lib.ListN.{length, replicate}
 use lib.Dec.{ltb, leb, eqb}
-use borrow.Author.Tests.{leb-true, le-leb, eqb-true, eqb-false, not-false}
-use Rattle.rule.specs.Lists.{cond, both, some}
-use Rattle.rule.specs.Order.{Ord, less, equal, greater, then, compareNumbers, compareKeys, compareEntries, isLess, isEqual}
-use Rattle.rule.specs.Entries.{Entry, order, valueKind, deletionKind}
-use Rattle.rule.proofs.Order.{keys, flip, less-true, equal-true, entries-not-less-number}
+use borrow.Author.Tests.{leb-true, le-leb}
+use Rattle.rule.specs.Lists.{both, some}
+use Rattle.rule.specs.Order.{Ord, less, equal, greater, compareEntries, isLess}
+use Rattle.rule.specs.Entries.{Entry, order}
+use Rattle.rule.proofs.Order.{less-true}
 use Rattle.image.specs.Limits.{maxKey, maxNumber, maxValue, levels}
-use Rattle.image.specs.Words.{Bytes}
 use Rattle.image.specs.Readers.{Read, got, bad, bind, check}
-use Rattle.image.specs.Entries.{Legal, Len, lenAt, Keyed, Parts, keyIn, numberIn, compareKeyed, entryIn, restAt}
+use Rattle.image.specs.Entries.{Len, lenAt, Keyed, Parts, keyIn, numberIn, compareKeyed, entryIn, restAt}
 use Rattle.image.specs.Nodes.{count, Lead, Node, nodeFrom, leadOf, nodeAt, entryOf, linkPlace, linkOf}
-use Rattle.image.specs.Sound.{Header, headerHolds}
-use Rattle.image.specs.Search.{Turn, onward, halt, below, OnEqual, toStop, toGoDown, toPass, turnBy, Found, hit, ends, ask, meet, look, searched, standing, passed}
-use Rattle.image.specs.Refusals.{badImage, badNumber, longKey, noNode, damaged, Answer, given, demand, reading, refusalOf}
+use Rattle.image.specs.Sound.{headerHolds}
+use Rattle.image.specs.Search.{Turn, onward, halt, below, OnEqual, toStop, toGoDown, turnBy, Found, hit, ends, ask, meet, look, searched, standing, passed}
+use Rattle.image.specs.Refusals.{badImage, badNumber, longKey, noNode, Answer, given, demand, reading, refusalOf}
 use Rattle.image.specs.EntryMoves.{Cursor, nowhere, on, cursorAt, inTable, EntryMove, first, seek, next, previous, follow, landing, landingAfter}
 use Rattle.image.specs.EntryMoves.{firstEntry, firstNotPassed, lastBefore, moved, allowed, entryMove, partsOn, viewed, keyView, viewRefusal}
 use Rattle.image.specs.Meaning.{IsNode, EntryAhead, EntryLands}
-use Rattle.image.specs.Cuts.{Cut, all, from, above, below, admits, nearAt, nearest, NearLands}
-use Rattle.image.specs.Lookup.{Looked, found, deleted, absent, saysOf, saidAt}
-use Rattle.image.specs.Newest.{NewestAt, withNode, newestAt, NewestLands, NewestLandsOn}
+use Rattle.image.specs.Cuts.{below}
 use Rattle.image.proofs.Readers.{got-same, bind-got, check-got}
 use Rattle.image.proofs.Refusals.{demand-given, reading-given}
 use Rattle.image.proofs.Machine.{find-keeps}
 use Rattle.image.proofs.Search.{isOnward}
 use Rattle.image.proofs.Spots.{standing-most, passed-most}
-use Rattle.image.proofs.Sound.{header-sound, header-complete}
 use Rattle.image.proofs.Lookup.{stop-less}
-use Rattle.image.proofs.Nearest.{before-key, upto-key}
-use Rattle.image.proofs.Check.{node-seen}
 
 -- ---- what a search passed, and what it did not
 
@@ -44,7 +38,7 @@ module _ (xs : List ℕ) (mode : OnEqual) (k : List ℕ) (s : ℕ) where
   turnAt m = turnBy mode (compareEntries (keyIn xs (m .keyed)) (numberIn (m .keyed)) k s)
 
   -- none, or a node that is read, and passed or not
-  abbrev Judged : Bool → ℕ → Type 0
+  abbrev pub Judged : Bool → ℕ → Type 0
   Judged b x = (x ≡ 0) ⊎ ((m : Lead) × (leadOf xs x ≡ got m) × (isOnward (turnAt m) ≡ b))
 
   look-turn : (cur level : ℕ) (t : Turn) → look xs mode k s cur level ≡ got t → Judged (isOnward t) (linkOf xs cur level)
@@ -71,7 +65,7 @@ module _ (xs : List ℕ) (mode : OnEqual) (k : List ℕ) (s : ℕ) where
     ending = λ n cur looks prev f g. (g, look-turn cur 0 below f);
   }) (count xs + levels) 0 (levels - 1) 0 (replicate levels 0) r (inl refl) e
 
-  standing-judged : (r : Found) → searched xs mode k s ≡ got r → Judged false (standing r)
+  pub standing-judged : (r : Found) → searched xs mode k s ≡ got r → Judged false (standing r)
   standing-judged (hit x looks) e = searched-judged (hit x looks) e
   standing-judged (ends p x looks prev) e = (searched-judged (ends p x looks prev) e) .1
 
@@ -134,7 +128,7 @@ module _ (xs : List ℕ) (i : ℕ) (shown : viewRefusal xs (on i) ≡ 0) where
 
 module _ (xs : List ℕ) where
   -- nowhere, or on a node that is read whole
-  abbrev Whole : Cursor → Type 0
+  abbrev pub Whole : Cursor → Type 0
   Whole nowhere = Unit
   Whole (on i) = IsNode xs i × ((m : Node) × (nodeAt xs i ≡ got m))
 
@@ -145,13 +139,13 @@ module _ (xs : List ℕ) where
       let z : on (suc i) ≡ d = got-same f in
       rw (← z) (record { some = omega arith; most = h }, (m, g))
 
-  first-whole : (d : Cursor) → firstEntry xs ≡ got d → Whole d
+  pub first-whole : (d : Cursor) → firstEntry xs ≡ got d → Whole d
   first-whole d e = let (c, f, g) = bind-got (follow xs 0) (landing xs) d e in let (p, q) = check-got (leb (linkOf xs 0 0) (count xs)) (linkPlace xs 0 0) (got (cursorAt (linkOf xs 0 0))) c f in
       let z : cursorAt (linkOf xs 0 0) ≡ c = got-same q in landing-whole (linkOf xs 0 0) (leb-true (linkOf xs 0 0) (count xs) p) d (rw z g)
 
   module _ (mode : OnEqual) (k : List ℕ) (n : ℕ) where
     -- and passed by the search, or not
-    abbrev Led : Bool → Cursor → Type 0
+    abbrev pub Led : Bool → Cursor → Type 0
     Led b nowhere = Unit
     Led b (on i) = IsNode xs i × ((m : Node) × (nodeAt xs i ≡ got m)) × (isOnward (turnBy mode (compareEntries ((entryOf xs i) .key) ((entryOf xs i) .number) k n)) ≡ b)
 
@@ -167,12 +161,12 @@ module _ (xs : List ℕ) where
         judged m g (inr (l, f, t)) = ap (λ (e : Entry). isOnward (turnBy mode (compareEntries (e .key) (e .number) k n))) (entry-read xs (suc i) m g)
             ∙ ap (λ (q : Keyed). isOnward (turnBy mode (compareEntries (keyIn xs q) (numberIn q) k n))) (lead-keyed xs (suc i) m g l f) ∙ t
 
-    first-led : (d : Cursor) → firstNotPassed xs mode k n ≡ got d → Led false d
+    pub first-led : (d : Cursor) → firstNotPassed xs mode k n ≡ got d → Led false d
     first-led d e =
         let (r, f, g) = bind-got (searched xs mode k n) (λ r. landing xs (cursorAt (standing r))) d e in
         led false (standing r) (standing-most xs mode k n r f) (standing-judged xs mode k n r f) d g
 
-  last-led : (k : List ℕ) (n : ℕ) (d : Cursor) → lastBefore xs k n ≡ got d → Led toGoDown k n true d
+  pub last-led : (k : List ℕ) (n : ℕ) (d : Cursor) → lastBefore xs k n ≡ got d → Led toGoDown k n true d
   last-led k n d e =
       let (r, f, g) = bind-got (searched xs toGoDown k n) (λ r. landing xs (cursorAt (passed r))) d e in
       led toGoDown k n true (passed r) (passed-most xs toGoDown k n r f) (passed-judged xs toGoDown k n r f) d g
@@ -180,7 +174,7 @@ module _ (xs : List ℕ) where
 -- ---- the moves of the entry cursor
 
 -- a search that goes down on equality passes what is less
-down-less : (o : Ord) → isOnward (turnBy toGoDown o) ≡ isLess o
+pub down-less : (o : Ord) → isOnward (turnBy toGoDown o) ≡ isLess o
 down-less less = refl
 down-less equal = refl
 down-less greater = refl
@@ -232,101 +226,3 @@ unfolding entryMove
 move-lands xs m c d e = let (h, f) = demand-given (headerHolds xs) badImage (demand (inTable xs c) noNode (allowed m (reading (moved xs m c) given))) d e in
     let (_, g) = demand-given (inTable xs c) noNode (allowed m (reading (moved xs m c) given)) d f in
     let (b, p, q) = reading-given (moved xs m c) given d (allowed-given m (reading (moved xs m c) given) d g) in let z : b ≡ d = cc in moved-lands xs h m c d (rw z at p)
-
--- ---- the key that comes next behind a cut
-
--- an entry that is not before another has no key before the other's
-key-not-less : (a : List ℕ) (m : ℕ) (b : List ℕ) (n : ℕ) → isLess (compareEntries a m b n) ≡ false → isLess (compareKeys a b) ≡ false
-unfolding compareEntries
-key-not-less a m b n = go (compareKeys a b) (compareNumbers n m)
-  where
-    go : (o p : Ord) → isLess (then o p) ≡ false → isLess o ≡ false
-    go less p h = h
-    go equal p h = refl
-    go greater p h = refl
-
-module _ (xs : List ℕ) (bytes : Bytes xs) (good : Header xs) where
-  header : headerHolds xs ≡ true
-  header = header-complete xs good
-
-  legal : (i : ℕ) (m : Node) → nodeAt xs i ≡ got m → Legal (entryOf xs i)
-  legal i m g = (node-seen xs i m bytes (omega (arith, good .high)) g) .0 .legal
-
-  near-by : (c : Cut) (t : List ℕ) (b : Bool) (mode : OnEqual) (n : ℕ)
-      → ((i : ℕ) (m : Node) → nodeAt xs i ≡ got m → isOnward (turnBy mode (compareEntries ((entryOf xs i) .key) ((entryOf xs i) .number) t n)) ≡ b → admits c t ((entryOf xs i) .key) ≡ true)
-      → (d : Cursor) → Led xs mode t n b d → NearLands xs c t d
-  near-by c t b mode n a nowhere l = tt
-  near-by c t b mode n a (on i) (h, (m, g), f) = (h, readable xs i m g header h, a i m g f)
-
-  near-first : (t : List ℕ) (d : Cursor) → Whole xs d → NearLands xs all t d
-  near-first t nowhere w = tt
-  near-first t (on i) (h, (m, g)) = (h, readable xs i m g header h, refl)
-
-  near-at-lands : (c : Cut) (t : List ℕ) (d : Cursor) → nearAt xs c t ≡ got d → NearLands xs c t d
-  unfolding compareEntries
-  near-at-lands all t d e = near-first t d (first-whole xs d e)
-  near-at-lands from t d e =
-      near-by from t false toStop maxNumber
-      (λ i m g f. ap not (key-not-less ((entryOf xs i) .key) ((entryOf xs i) .number) t maxNumber
-      (sym (stop-less (compareEntries ((entryOf xs i) .key) ((entryOf xs i) .number) t maxNumber)) ∙ f))) d (first-led xs toStop t maxNumber d e)
-  near-at-lands above t d e =
-      near-by above t false toPass 0 (λ i m g f. rw (keys .flips ((entryOf xs i) .key) t)
-      (not-false (isLess (flip (compareKeys ((entryOf xs i) .key) t))) (sym (upto-key (compareKeys ((entryOf xs i) .key) t) ((entryOf xs i) .number)) ∙ f))) d
-      (first-led xs toPass t 0 d e)
-  near-at-lands below t d e =
-      near-by below t true toGoDown maxNumber
-      (λ i m g f. sym (before-key (compareKeys ((entryOf xs i) .key) t) ((entryOf xs i) .number) (legal i m g .number-low)) ∙
-      sym (down-less (compareEntries ((entryOf xs i) .key) ((entryOf xs i) .number) t maxNumber)) ∙ f) d (last-led xs t maxNumber d e)
-
-pub near-lands : (xs : List ℕ) → Bytes xs → (c : Cut) (t : List ℕ) (d : Cursor) → nearest xs c t ≡ given d → NearLands xs c t d
-unfolding nearest
-near-lands xs b c t d e =
-    let (h, f) = demand-given (headerHolds xs) damaged (reading (nearAt xs c t) given) d e in
-    let (x, g, q) = reading-given (nearAt xs c t) given d f in
-    let z : x ≡ d = cc in
-    near-at-lands xs b (header-sound xs h) c t d (rw z at g)
-
--- ---- the newest entry of a key
-
--- a type that is not that of a value is that of a deletion
-other-kind : (kind : ℕ) → kind ≤ 1 → eqb kind valueKind ≡ false → kind ≡ deletionKind
-other-kind kind h e = omega (arith, eqb-false kind valueKind e)
-
-module _ (xs : List ℕ) (bytes : Bytes xs) (good : Header xs) (k : List ℕ) (s : ℕ) where
-  lands : (kind i : ℕ) → i ≤ count xs → 1 ≤ i → (m : Node) → nodeAt xs i ≡ got m → isEqual (compareKeys ((entryOf xs i) .key) k) ≡ true
-      → (entryOf xs i) .kind ≡ kind → Judged xs toStop k s false i → NewestLands xs k s kind i
-  lands kind i h p m g same is (inl z) = absurd (omega arith)
-  lands kind i h p m g same is (inr (l, f, t)) =
-      let n : IsNode xs i = record { some = p; most = h } in
-      let key = keys .eq ((entryOf xs i) .key) k (equal-true (compareKeys ((entryOf xs i) .key) k) same) in
-      record {
-        node = n;
-        readable = readable xs i m g (header-complete xs good) n;
-        key-is = key;
-        number-most =
-            entries-not-less-number ((entryOf xs i) .key) ((entryOf xs i) .number) k s key
-            (sym (stop-less (compareEntries ((entryOf xs i) .key) ((entryOf xs i) .number) k s)) ∙
-            ap (λ (e : Entry). isOnward (turnBy toStop (compareEntries (e .key) (e .number) k s))) (entry-read xs i m g)
-            ∙ ap (λ (q : Keyed). isOnward (turnBy toStop (compareEntries (keyIn xs q) (numberIn q) k s))) (lead-keyed xs i m g l f) ∙ t);
-        kind-is = is;
-      }
-
-  said-lands : (i : ℕ) → i ≤ count xs → Judged xs toStop k s false i → (a : Looked) → saidAt xs k i ≡ got a → NewestLandsOn xs k s (withNode i a)
-  said-lands zero h j a e = let z : absent ≡ a = got-same e in rw (← z) tt
-  said-lands (suc i) h j a e = let (m, g, f) = bind-got (nodeAt xs (suc i)) (λ m. got (saysOf k (suc i) (entryIn xs (m .parts)))) a e in
-      let z : saysOf k (suc i) (entryOf xs (suc i)) ≡ a = ap (saysOf k (suc i)) (entry-read xs (suc i) m g) ∙ got-same f in
-      rw (← z) (go m g (isEqual (compareKeys ((entryOf xs (suc i)) .key) k)) refl (eqb ((entryOf xs (suc i)) .kind) valueKind) refl)
-    where
-      go : (m : Node) → nodeAt xs (suc i) ≡ got m → (b : Bool) → isEqual (compareKeys ((entryOf xs (suc i)) .key) k) ≡ b → (v : Bool)
-          → eqb ((entryOf xs (suc i)) .kind) valueKind ≡ v → NewestLandsOn xs k s (withNode (suc i) (cond b (cond v (found (suc i)) deleted) absent))
-      go m g true p true q = lands valueKind (suc i) h (omega arith) m g p (eqb-true ((entryOf xs (suc i)) .kind) valueKind q) j
-      go m g true p false q = lands deletionKind (suc i) h (omega arith) m g p (other-kind ((entryOf xs (suc i)) .kind) (legal xs bytes good (suc i) m g .kind-known) q) j
-      go m g false p v q = tt
-
-pub newest-lands : (xs : List ℕ) → Bytes xs → (k : List ℕ) (s : ℕ) (v : NewestAt) → newestAt xs k s ≡ given v → NewestLandsOn xs k s v
-unfolding newestAt
-newest-lands xs b k s v e =
-    let (h, f) = demand-given (headerHolds xs) damaged (reading (searched xs toStop k s) (λ r. reading (saidAt xs k (standing r)) (λ a. given (withNode (standing r) a)))) v e in
-    let (r, g, f1) = reading-given (searched xs toStop k s) (λ r. reading (saidAt xs k (standing r)) (λ a. given (withNode (standing r) a))) v f in
-    let (a, p, q) = reading-given (saidAt xs k (standing r)) (λ a. given (withNode (standing r) a)) v f1 in
-    let z : withNode (standing r) a ≡ v = cc in rw (← z) (said-lands xs b (header-sound xs h) k s (standing r) (standing-most xs toStop k s r g) (standing-judged xs toStop k s r g) a p)

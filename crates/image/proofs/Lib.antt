@@ -26,4 +26,5 @@ pub mod Spots
 pub mod Views
 pub mod Nearest
 pub mod Landing
+pub mod Answering
 pub mod Newest

@@ -128,6 +128,7 @@ module _ (xs : List ℕ) where
     lands-first e = lands ∙ ap (landsOn xs) e ∙ by-test (leb (linkOf xs 0 0) (count xs))
       where
         by-test : (t : Bool)
-            → landsOn xs (demand t damaged (given (record { node = linkOf xs 0 0; equal = false; looks = 1 }))) ≡ reading (bind (check t (linkPlace xs 0 0) (got (cursorAt (linkOf xs 0 0)))) (landing xs)) given
+            → landsOn xs (demand t damaged (given (record { node = linkOf xs 0 0; equal = false; looks = 1 })))
+            ≡ reading (bind (check t (linkPlace xs 0 0) (got (cursorAt (linkOf xs 0 0)))) (landing xs)) given
         by-test true = refl
         by-test false = refl

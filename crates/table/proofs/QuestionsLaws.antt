@@ -14,7 +14,7 @@ use Rattle.image.specs.Cuts.{Cut, all, from, above, below, nearAt, nearest, Nea
 use Rattle.image.specs.Newest.{NewestAt as NewestAtIs, withNode, newestAt, NewestLandsOn}
 use Rattle.image.proofs.Nearest.{nearest-right}
 use Rattle.image.proofs.Newest.{newest-right}
-use Rattle.image.proofs.Landing.{near-lands, newest-lands}
+use Rattle.image.proofs.Answering.{near-lands, newest-lands}
 use Rattle.table.specs.Nodes.{Framed}
 use Rattle.table.specs.Memtable.{andThen}
 use Rattle.table.specs.Questions.{IfGiven, nodesOf, Behind, hitAs, Nears, newestAs, TellsNewest}
