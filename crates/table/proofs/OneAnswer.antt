@@ -144,10 +144,6 @@ newestFrom (given (deletion i)) = newest.Deletion i
 newestFrom (given nothing) = newest.Absent
 newestFrom (refused r) = newest.Damaged
 
-spanFrom : Answer Span → SpanOn
-spanFrom (given s) = span.At (s .at) (s .len)
-spanFrom (refused r) = span.Refused (refusalFrom r)
-
 orderingFrom : Ord → Ordering
 orderingFrom less = Less
 orderingFrom equal = Equal
@@ -235,8 +231,8 @@ unfolding spanFrom
 span-back (span.At o n) = refl
 span-back (span.Refused q) = ap {B = SpanOn} span.Refused (refusal-back q)
 
-pub spans-one : (xs : List ℕ) (v : Answer Span) (r q : SpanOn) → Spans xs v r → Spans xs v q → r ≡ q
-spans-one xs v r q a b = recovered spanAs spanFrom span-back r q (a .exact ∙ sym (b .exact))
+pub span-one : (xs : List ℕ) (v : Answer Span) (r q : SpanOn) → Spans xs v r → Spans xs v q → r ≡ q
+span-one xs v r q a b = recovered spanAs spanFrom span-back r q (a .exact ∙ sym (b .exact))
 
 pub row-span-one : (xs k : List ℕ) (s : ℕ) (r q : SpanOn) → ShowsRow xs k s r → ShowsRow xs k s q → r ≡ q
 row-span-one xs k s r q a b = recovered spanAs spanFrom span-back r q (a .exact ∙ sym (b .exact))
@@ -259,14 +255,6 @@ newest-one xs k s r q a b = recovered newestAs newestFrom back r q (a .exact ∙
     back (newest.Deletion i) = refl
     back newest.Absent = refl
     back newest.Damaged = refl
-
-pub span-one : (xs : List ℕ) (v : Answer Span) (r q : SpanOn) → Spans xs v r → Spans xs v q → r ≡ q
-unfolding spanFrom
-span-one xs v r q a b = recovered spanAs spanFrom back r q (a .exact ∙ sym (b .exact))
-  where
-    back : (r : SpanOn) → spanFrom (spanAs r) ≡ r
-    back (span.At o n) = refl
-    back (span.Refused q) = ap {B = SpanOn} span.Refused (refusal-back q)
 
 -- ---- where a promise is an equation through a definition, the definition takes no two answers to one
 
