@@ -4,7 +4,7 @@ use crate::guarded::Guarded;
 use std::sync::atomic::{AtomicBool, AtomicU32, AtomicU64, Ordering::Relaxed};
 
 /// The calls of the interface.
-pub const NAMES: [&str; 24] = [
+pub const NAMES: [&str; 25] = [
     "bavo_fresh",
     "bavo_add",
     "bavo_check",
@@ -29,6 +29,7 @@ pub const NAMES: [&str; 24] = [
     "bavo_row_key",
     "bavo_row_value",
     "bavo_row_refusal",
+    "bavo_get_value",
 ];
 pub const CALLS: usize = NAMES.len();
 pub const MOST_CALLERS: usize = 16;

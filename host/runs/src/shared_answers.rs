@@ -22,7 +22,8 @@ impl Caller<'_> {
             11..=15 => self.entry_view(which),
             16 => self.pair_get(which),
             17..=20 => self.visible_move(which),
-            _ => self.row_view(which),
+            21..=23 => self.row_view(which),
+            _ => self.get_value(which),
         }
     }
 
@@ -211,5 +212,17 @@ impl Caller<'_> {
         let image = if view.table == 2 { two } else { one };
         let holds = view.table <= 2 && inside(image, view.offset, view.length);
         self.noted(which, view.refusal, holds, (from, view));
+    }
+
+    fn get_value(&mut self, which: usize) {
+        let t = self.rng.below(2);
+        let image = self.world.images[t];
+        let (key, number) = (self.draw_key(), self.number());
+        let (at, length) = (image.at(), image.length);
+        let view = self.timed(which, || unsafe {
+            bavo_get_value(at, length, key.at, key.bytes.len(), number)
+        });
+        let holds = inside(image, view.offset, view.length) && key.stands();
+        self.noted(which, view.refusal, holds, (&key.bytes, number, view));
     }
 }
