@@ -15,7 +15,7 @@ fn begins(a: &[u8], b: &[u8], i: usize) -> bool {
 }
 
 // Writes the byte at i where a stretch begins, and - and the byte where a longer one ends.
-fn mark(out: &mut [u8], at: usize, a: &[u8], b: &[u8], i: usize, next: usize) -> usize {
+fn mark(out: &mut [u8; 4200], at: usize, a: &[u8], b: &[u8], i: usize, next: usize) -> usize {
     if !differs(a, b, i) {
         return at;
     }
@@ -32,7 +32,7 @@ fn mark(out: &mut [u8], at: usize, a: &[u8], b: &[u8], i: usize, next: usize) ->
 }
 
 // Writes all stretches, or that there is none.
-pub fn all(out: &mut [u8], a: &[u8], b: &[u8]) -> usize {
+pub fn all(out: &mut [u8; 4200], a: &[u8], b: &[u8]) -> usize {
     let mut end = 0;
     let mut i = 0;
     while i < a.len() {

@@ -34,7 +34,7 @@ pub fn value_text(s: &[u8]) -> &[u8] {
 }
 
 // The value; nothing behind the type is the empty one.
-pub fn value(s: &[u8], out: &mut [u8]) -> Taken {
+pub fn value(s: &[u8], out: &mut [u8; 4200]) -> Taken {
     let v = value_text(s);
     if v.len() < 1 {
         return bytes(b"\"\"", out);
@@ -59,7 +59,7 @@ fn kind(t: &[u8]) -> u64 {
 }
 
 // A key with a number, and with a type where one is to be there.
-pub fn asked(s: &[u8], with_kind: bool, out: &mut [u8]) -> Wanted {
+pub fn asked(s: &[u8], with_kind: bool, out: &mut [u8; 4200]) -> Wanted {
     let key = bytes(before(s, b'@'), out);
     let t = after(s, b'@');
     let n = number(part(t, 0, digits(t)));

@@ -5,7 +5,7 @@ use crate::put;
 use crate::show;
 use crate::state;
 use crate::state::UNCLEAR;
-use crate::text::part;
+use crate::text::front;
 use crate::text::word;
 use capi::entry_iter::BavoEntryCursor;
 use capi::entry_iter::BavoEntryMoved;
@@ -24,7 +24,7 @@ use capi::memtable::BavoView;
 const NO_LINE: u32 = 99;
 
 // A value behind its mark; an empty one of a deletion is not written.
-fn value(out: &mut [u8], at: usize, image: &[u8], kind: u8, v: BavoView) -> usize {
+fn value(out: &mut [u8; 4200], at: usize, image: &[u8], kind: u8, v: BavoView) -> usize {
     let end = put::byte(out, at, if kind == 1 { b'=' } else { b'-' });
     if (kind == 0) & (v.length < 1) {
         return end;
@@ -33,7 +33,7 @@ fn value(out: &mut [u8], at: usize, image: &[u8], kind: u8, v: BavoView) -> usiz
 }
 
 // The entry at a cursor, as document 01 writes it, and its node.
-fn entry_at(out: &mut [u8], image: &[u8], c: BavoEntryCursor) -> usize {
+fn entry_at(out: &mut [u8; 4200], image: &[u8], c: BavoEntryCursor) -> usize {
     let end = show::view(out, 0, image, bavo_entry_key(image, c));
     let end = put::byte(out, end, b'@');
     let end = put::number(out, end, bavo_entry_number(image, c));
@@ -43,7 +43,7 @@ fn entry_at(out: &mut [u8], image: &[u8], c: BavoEntryCursor) -> usize {
 }
 
 // Where a move led.
-fn led(out: &mut [u8], image: &[u8], r: BavoEntryMoved) -> usize {
+fn led(out: &mut [u8; 4200], image: &[u8], r: BavoEntryMoved) -> usize {
     if r.refusal != 0 {
         return show::refused_move(out, r.refusal, r.on, r.node);
     }
@@ -68,7 +68,7 @@ fn sought(s: &[u8], image: &[u8], c: BavoEntryCursor) -> BavoEntryMoved {
             node: 0,
         };
     }
-    bavo_entry_seek(image, c, part(&space, 0, asked.len), asked.number)
+    bavo_entry_seek(image, c, front(&space, asked.len), asked.number)
 }
 
 fn moved(op: usize, call: &[u8], image: &[u8], c: BavoEntryCursor) -> BavoEntryMoved {
@@ -90,7 +90,7 @@ fn number_of(op: usize, image: &[u8], c: BavoEntryCursor) -> u64 {
 }
 
 // The views at the cursor.
-fn shown(op: usize, image: &[u8], c: BavoEntryCursor, out: &mut [u8]) -> usize {
+fn shown(op: usize, image: &[u8], c: BavoEntryCursor, out: &mut [u8; 4200]) -> usize {
     if op == ops::ENTRY_KEY {
         return show::view_at(out, image, 0, bavo_entry_key(image, c));
     }
@@ -106,7 +106,7 @@ pub fn ask(
     t: usize,
     image: &[u8],
     state: &mut [usize; 10],
-    out: &mut [u8],
+    out: &mut [u8; 4200],
 ) -> usize {
     let c = state::entry_cursor(state, t);
     if op > ops::ENTRY_PREV {

@@ -130,12 +130,12 @@ fn pair(high: u64, low: u64) -> u64 {
 }
 
 // Puts bytes of two digits each at the start of out.
-pub fn hexes(s: &[u8], out: &mut [u8]) -> Taken {
+pub fn hexes(s: &[u8], out: &mut [u8; 4200]) -> Taken {
     let n = s.len() / 2;
     if n + n != s.len() {
         return took(false, 0);
     }
-    if n > out.len() {
+    if n > 4200 {
         return took(false, 0);
     }
     let mut i = 0;
@@ -151,28 +151,28 @@ pub fn hexes(s: &[u8], out: &mut [u8]) -> Taken {
 }
 
 // Puts one byte so many times at the start of out.
-fn repeated(b: u8, times: Parsed, out: &mut [u8]) -> Taken {
+fn repeated(b: u8, times: Parsed, out: &mut [u8; 4200]) -> Taken {
     let n = times.value as usize;
-    if n > out.len() {
+    if n > 4200 {
         return took(false, 0);
     }
-    put::fill(out, 0, n, b);
+    put::fill(out, n, b);
     took(times.formed, n)
 }
 
 // Puts letters and digits as they stand at the start of out.
-fn plain(s: &[u8], out: &mut [u8]) -> Taken {
+fn plain(s: &[u8], out: &mut [u8; 4200]) -> Taken {
     if !put::is_plain(s) {
         return took(false, 0);
     }
-    if s.len() > out.len() {
+    if s.len() > 4200 {
         return took(false, 0);
     }
     took(s.len() > 0, put::text(out, 0, s))
 }
 
 // Puts the bytes that a text gives at the start of out.
-pub fn bytes(s: &[u8], out: &mut [u8]) -> Taken {
+pub fn bytes(s: &[u8], out: &mut [u8; 4200]) -> Taken {
     if same(s, b"\"\"") {
         return took(true, 0);
     }

@@ -31,9 +31,12 @@ fn set_cursor(op: usize, call: &[u8], t: usize, state: &mut [usize; 10]) -> usiz
     QUIET
 }
 
-// Who answers from here on.
-fn answered(s: &[u8], state: &mut [usize; 10]) -> usize {
-    let by = tally::source(s);
+// The lines that set a cursor, or who answers from here on.
+fn set(op: usize, call: &[u8], t: usize, state: &mut [usize; 10]) -> usize {
+    if op != ops::BY {
+        return set_cursor(op, call, t, state);
+    }
+    let by = tally::source(word(call, 1));
     if by >= tally::SOURCES {
         return UNCLEAR;
     }
@@ -42,7 +45,7 @@ fn answered(s: &[u8], state: &mut [usize; 10]) -> usize {
 }
 
 // What the last call that writes changed.
-fn changed(memory: &[u8], t: usize, len: usize, out: &mut [u8]) -> usize {
+fn changed(memory: &[u8], t: usize, len: usize, out: &mut [u8; 4200]) -> usize {
     changes::all(
         out,
         state::image(memory, t, len),
@@ -51,53 +54,73 @@ fn changed(memory: &[u8], t: usize, len: usize, out: &mut [u8]) -> usize {
 }
 
 // The calls over both tables.
-fn over_both(op: usize, s: &[u8], memory: &[u8], state: &mut [usize; 10], out: &mut [u8]) -> usize {
+fn over_both(
+    op: usize,
+    s: &[u8],
+    memory: &[u8],
+    state: &mut [usize; 10],
+    out: &mut [u8; 4200],
+) -> usize {
     let first = state::image(memory, 0, state::len(state, 0));
     let second = state::image(memory, 1, state::len(state, 1));
     pair::ask(op, s, first, second, state, out)
 }
 
-// The questions, which change no byte of a memory.
-fn look(
+// The questions to one table, which change no byte of a memory.
+fn on_one(
     op: usize,
     call: &[u8],
     t: usize,
-    memory: &[u8],
+    image: &[u8],
     state: &mut [usize; 10],
-    out: &mut [u8],
+    out: &mut [u8; 4200],
 ) -> usize {
-    if op >= ops::PAIR_GET {
-        return over_both(op, word(call, 1), memory, state, out);
-    }
     if t > 1 {
         return UNCLEAR;
     }
-    let image = state::image(memory, t, state::len(state, t));
     if op >= ops::ENTRY_FIRST {
         return entry_cursor::ask(op, call, t, image, state, out);
     }
     one_table::ask(op, call, image, out)
 }
 
-// Does what a line asks for before its arrow; the answer stands at the start of out, and where it ends is told.
-pub fn follow(call: &[u8], memory: &mut [u8], state: &mut [usize; 10], out: &mut [u8]) -> usize {
-    let op = ops::of(call);
-    let t = index(b"A B", 2, word(call, 1));
-    if op == ops::BY {
-        return answered(word(call, 1), state);
-    }
-    if op <= ops::ENTRY_CURSOR {
-        return set_cursor(op, call, t, state);
-    }
-    if op <= ops::ADD {
-        return writes::follow(op, call, t, memory, state, out);
-    }
+// The questions.
+fn look(
+    op: usize,
+    call: &[u8],
+    t: usize,
+    memory: &[u8],
+    state: &mut [usize; 10],
+    out: &mut [u8; 4200],
+) -> usize {
     if op == ops::CHANGED {
         let wrote = state[state::WROTE];
         return changed(memory, wrote, state::len(state, wrote), out);
     }
     if op >= ops::UNKNOWN {
         return UNCLEAR;
+    }
+    if op >= ops::PAIR_GET {
+        return over_both(op, word(call, 1), memory, state, out);
+    }
+    let image = state::image(memory, t, state::len(state, t));
+    on_one(op, call, t, image, state, out)
+}
+
+// Does what a line asks for before its arrow; the answer stands at the start of out, and where it ends is told.
+pub fn follow(
+    call: &[u8],
+    memory: &mut [u8],
+    state: &mut [usize; 10],
+    out: &mut [u8; 4200],
+) -> usize {
+    let op = ops::of(call);
+    let t = index(b"A B", 2, word(call, 1));
+    if op < ops::CASE {
+        return set(op, call, t, state);
+    }
+    if op <= ops::ADD {
+        return writes::follow(op, call, t, memory, state, out);
     }
     look(op, call, t, memory, state, out)
 }

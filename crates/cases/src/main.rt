@@ -6,10 +6,11 @@ mod entry; // entry.rt: an entry as document 01 writes it
 mod entry_cursor; // entry_cursor.rt: the calls on the entry cursor
 mod given; // given.rt: numbers and bytes as a line gives them
 mod lines; // lines.rt: what a line asks for
+mod memory; // memory.rt: writing into the memories
 mod one_table; // one_table.rt: the calls on one table
 mod ops; // ops.rt: the words that a line begins with
 mod pair; // pair.rt: the calls over both tables
-mod put; // put.rt: writing into a line or a memory
+mod put; // put.rt: writing into a line
 mod show; // show.rt: answers in words
 mod state; // state.rt: what lines carry from one to the next
 mod tally; // tally.rt: how many answers were as expected
@@ -22,6 +23,7 @@ use crate::state::UNCLEAR;
 use crate::text::arrow;
 use crate::text::begins;
 use crate::text::byte;
+use crate::text::front;
 use crate::text::part;
 use crate::text::rest;
 use bytes::scan::find;
@@ -54,8 +56,8 @@ fn differs(n: u64, line: &[u8], formed: bool, answer: &[u8]) {
 }
 
 // Judges what a line came to. One that asks nothing is counted only if it is wrong.
-fn judge(n: u64, line: &[u8], said: usize, out: &[u8], by: usize, counts: &mut [u64; 11]) {
-    let answer = part(out, 0, said);
+fn judge(n: u64, line: &[u8], said: usize, out: &[u8; 4200], by: usize, counts: &mut [u64; 11]) {
+    let answer = front(out, said);
     let expected = rest(rest(line, arrow(line)), 4);
     let formed = said < UNCLEAR;
     if !(formed & holds(expected, answer)) {
@@ -87,7 +89,7 @@ fn run_line(
     if is_comment(line) {
         return;
     }
-    let mut out = [0u8; 1024];
+    let mut out = [0u8; 4200];
     let call = part(line, 0, arrow(line));
     let said = lines::follow(call, memory, state, &mut out);
     judge(n, line, said, &out, state[state::BY], counts);

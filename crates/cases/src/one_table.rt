@@ -6,6 +6,7 @@ use crate::ops;
 use crate::put;
 use crate::show;
 use crate::state::UNCLEAR;
+use crate::text::front;
 use crate::text::part;
 use crate::text::word;
 use capi::memtable::BavoLookup;
@@ -16,7 +17,7 @@ use capi::memtable::bavo_value;
 use capi::memtable::bavo_value_refusal;
 
 // A lookup's answer.
-fn lookup(out: &mut [u8], image: &[u8], r: BavoLookup) -> usize {
+fn lookup(out: &mut [u8; 4200], image: &[u8], r: BavoLookup) -> usize {
     if r.refusal != 0 {
         return show::refused(out, 0, r.refusal);
     }
@@ -24,7 +25,7 @@ fn lookup(out: &mut [u8], image: &[u8], r: BavoLookup) -> usize {
 }
 
 // The calls that take a key: a lookup, and whether an entry is held.
-fn with_key(op: usize, s: &[u8], image: &[u8], out: &mut [u8]) -> usize {
+fn with_key(op: usize, s: &[u8], image: &[u8], out: &mut [u8; 4200]) -> usize {
     let mut space = [0u8; 4200];
     let held = op == ops::CONTAINS;
     let asked = entry::asked(s, held, &mut space);
@@ -32,7 +33,7 @@ fn with_key(op: usize, s: &[u8], image: &[u8], out: &mut [u8]) -> usize {
     if !(asked.formed & bare) {
         return UNCLEAR;
     }
-    let key = part(&space, 0, asked.len);
+    let key = front(&space, asked.len);
     if held {
         let r = bavo_contains(image, key, asked.number, asked.kind);
         return show::presence(out, r);
@@ -41,7 +42,7 @@ fn with_key(op: usize, s: &[u8], image: &[u8], out: &mut [u8]) -> usize {
 }
 
 // The value of a node, or its companion.
-fn value(op: usize, s: &[u8], image: &[u8], out: &mut [u8]) -> usize {
+fn value(op: usize, s: &[u8], image: &[u8], out: &mut [u8; 4200]) -> usize {
     let n = number(s);
     let node = n.value as usize;
     if !n.formed {
@@ -54,7 +55,7 @@ fn value(op: usize, s: &[u8], image: &[u8], out: &mut [u8]) -> usize {
 }
 
 // So many bytes of the image from a place on, four to a group.
-fn bytes(call: &[u8], image: &[u8], out: &mut [u8]) -> usize {
+fn bytes(call: &[u8], image: &[u8], out: &mut [u8; 4200]) -> usize {
     let n = two(call, 2);
     let stretch = part(image, n.first as usize, n.second as usize);
     if !n.formed {
@@ -66,7 +67,7 @@ fn bytes(call: &[u8], image: &[u8], out: &mut [u8]) -> usize {
     put::hex(out, 0, stretch, 4)
 }
 
-pub fn ask(op: usize, call: &[u8], image: &[u8], out: &mut [u8]) -> usize {
+pub fn ask(op: usize, call: &[u8], image: &[u8], out: &mut [u8; 4200]) -> usize {
     if op == ops::BYTES {
         return bytes(call, image, out);
     }

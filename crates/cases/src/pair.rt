@@ -7,7 +7,7 @@ use crate::show;
 use crate::state;
 use crate::state::UNCLEAR;
 use crate::text::byte;
-use crate::text::part;
+use crate::text::front;
 use crate::text::rest;
 use capi::db_iter::BavoCursor;
 use capi::db_iter::BavoMoved;
@@ -45,7 +45,7 @@ fn plain(v: BavoRowView) -> BavoView {
 }
 
 // A lookup's answer; `row` tells a value, or that there is none.
-fn lookup(op: usize, out: &mut [u8], image: &[u8], r: BavoPairLookup) -> usize {
+fn lookup(op: usize, out: &mut [u8; 4200], image: &[u8], r: BavoPairLookup) -> usize {
     if r.refusal != 0 {
         return show::refused(out, 0, r.refusal);
     }
@@ -59,13 +59,13 @@ fn lookup(op: usize, out: &mut [u8], image: &[u8], r: BavoPairLookup) -> usize {
 }
 
 // A lookup in the pair.
-fn get<'a>(op: usize, s: &[u8], first: &'a [u8], second: &'a [u8], out: &mut [u8]) -> usize {
+fn get<'a>(op: usize, s: &[u8], first: &'a [u8], second: &'a [u8], out: &mut [u8; 4200]) -> usize {
     let mut space = [0u8; 4200];
     let asked = entry::asked(s, false, &mut space);
     if !asked.formed {
         return UNCLEAR;
     }
-    let r = bavo_pair_get(first, second, part(&space, 0, asked.len), asked.number);
+    let r = bavo_pair_get(first, second, front(&space, asked.len), asked.number);
     lookup(op, out, image_of(first, second, r.table), r)
 }
 
@@ -84,7 +84,7 @@ fn sought<'a>(s: &[u8], first: &'a [u8], second: &'a [u8], c: BavoCursor) -> Bav
     if !asked.formed {
         return no_line();
     }
-    let key = part(&space, 0, asked.len);
+    let key = front(&space, asked.len);
     bavo_seek(first, second, asked.number, c, key)
 }
 
@@ -104,7 +104,7 @@ fn moved<'a>(op: usize, s: &[u8], first: &'a [u8], second: &'a [u8], c: BavoCurs
 }
 
 // The row at a cursor, and its place.
-fn row_at<'a>(out: &mut [u8], first: &'a [u8], second: &'a [u8], c: BavoCursor) -> usize {
+fn row_at<'a>(out: &mut [u8; 4200], first: &'a [u8], second: &'a [u8], c: BavoCursor) -> usize {
     let image = image_of(first, second, c.table);
     let end = show::view(out, 0, image, plain(bavo_row_key(first, second, c)));
     let end = put::byte(out, end, b'=');
@@ -113,7 +113,7 @@ fn row_at<'a>(out: &mut [u8], first: &'a [u8], second: &'a [u8], c: BavoCursor) 
 }
 
 // Where a move led.
-fn led<'a>(out: &mut [u8], first: &'a [u8], second: &'a [u8], r: BavoMoved) -> usize {
+fn led<'a>(out: &mut [u8; 4200], first: &'a [u8], second: &'a [u8], r: BavoMoved) -> usize {
     if r.refusal != 0 {
         return show::refused_move(out, r.refusal, r.table, r.node);
     }
@@ -128,7 +128,7 @@ fn led<'a>(out: &mut [u8], first: &'a [u8], second: &'a [u8], r: BavoMoved) -> u
 }
 
 // A view with its table, or that it is nowhere.
-fn view_at<'a>(out: &mut [u8], first: &'a [u8], second: &'a [u8], v: BavoRowView) -> usize {
+fn view_at<'a>(out: &mut [u8; 4200], first: &'a [u8], second: &'a [u8], v: BavoRowView) -> usize {
     if (v.refusal == 0) & (v.table == 0) {
         return put::text(out, 0, b"\"\" nowhere");
     }
@@ -137,7 +137,13 @@ fn view_at<'a>(out: &mut [u8], first: &'a [u8], second: &'a [u8], v: BavoRowView
 }
 
 // The views at the cursor.
-fn shown<'a>(op: usize, first: &'a [u8], second: &'a [u8], c: BavoCursor, out: &mut [u8]) -> usize {
+fn shown<'a>(
+    op: usize,
+    first: &'a [u8],
+    second: &'a [u8],
+    c: BavoCursor,
+    out: &mut [u8; 4200],
+) -> usize {
     if op == ops::ROW_KEY {
         return view_at(out, first, second, bavo_row_key(first, second, c));
     }
@@ -153,7 +159,7 @@ pub fn ask<'a>(
     first: &'a [u8],
     second: &'a [u8],
     state: &mut [usize; 10],
-    out: &mut [u8],
+    out: &mut [u8; 4200],
 ) -> usize {
     let c = state::cursor(state);
     if op >= ops::ROW_KEY {

@@ -1,14 +1,13 @@
-// Writing into a line or a memory, from a place on and as far as it has room; each function answers the place behind what it wrote.
+// Writing into a line of 4,200 bytes, from a place on and as far as it has room; each function answers the place behind what it wrote.
 use crate::text::byte as byte_of;
 use crate::text::part;
-use crate::text::rest;
 
 // More equal bytes than this are written as one letter so many times.
 const LONG: usize = 16;
 
 // A byte.
-pub fn byte(out: &mut [u8], at: usize, b: u8) -> usize {
-    if at < out.len() {
+pub fn byte(out: &mut [u8; 4200], at: usize, b: u8) -> usize {
+    if at < 4200 {
         out[at] = b;
         return at + 1;
     }
@@ -16,7 +15,7 @@ pub fn byte(out: &mut [u8], at: usize, b: u8) -> usize {
 }
 
 // Bytes as they stand.
-pub fn text(out: &mut [u8], at: usize, s: &[u8]) -> usize {
+pub fn text(out: &mut [u8; 4200], at: usize, s: &[u8]) -> usize {
     let mut end = at;
     let mut i = 0;
     while i < s.len() {
@@ -26,52 +25,30 @@ pub fn text(out: &mut [u8], at: usize, s: &[u8]) -> usize {
     end
 }
 
-// So many bytes, all the same.
-pub fn fill(out: &mut [u8], at: usize, n: usize, b: u8) {
-    let mut end = at;
+// So many bytes at the start, all the same.
+pub fn fill(out: &mut [u8; 4200], n: usize, b: u8) {
     let mut i = 0;
     while i < n {
-        end = byte(out, end, b);
+        byte(out, i, b);
         i += 1;
     }
-}
-
-// So many bytes of a memory, from one place to another.
-pub fn keep(memory: &mut [u8], from: usize, to: usize, n: usize) {
-    let mut end = to;
-    let mut i = 0;
-    while i < n {
-        end = byte(memory, end, byte_of(rest(memory, from), i));
-        i += 1;
-    }
-}
-
-// Bytes over those at a place of a part that begins there.
-pub fn over(memory: &mut [u8], start: usize, at: usize, s: &[u8]) {
-    if at > memory.len() {
-        return;
-    }
-    if start > memory.len() - at {
-        return;
-    }
-    text(memory, start + at, s);
 }
 
 // A number.
-pub fn number(out: &mut [u8], at: usize, n: u64) -> usize {
+pub fn number(out: &mut [u8; 4200], at: usize, n: u64) -> usize {
     let mut digits = [0u8; 20];
     let k = io::decimal(n, &mut digits);
     text(out, at, &digits[..k])
 }
 
 // A text and a number behind it.
-pub fn counted(out: &mut [u8], at: usize, s: &[u8], n: usize) -> usize {
+pub fn counted(out: &mut [u8; 4200], at: usize, s: &[u8], n: usize) -> usize {
     let end = text(out, at, s);
     number(out, end, n as u64)
 }
 
 // The two digits of a byte.
-fn hex_byte(out: &mut [u8], at: usize, b: u8) -> usize {
+fn hex_byte(out: &mut [u8; 4200], at: usize, b: u8) -> usize {
     let mut digits = [0u8; 16];
     let k = io::hex(b as u64, 2, &mut digits);
     text(out, at, &digits[..k])
@@ -89,7 +66,7 @@ fn gap(i: usize, group: usize) -> usize {
 }
 
 // Bytes in hexadecimal, in groups with a blank between two of them.
-pub fn hex(out: &mut [u8], at: usize, s: &[u8], group: usize) -> usize {
+pub fn hex(out: &mut [u8; 4200], at: usize, s: &[u8], group: usize) -> usize {
     let mut end = at;
     let mut i = 0;
     while i < s.len() {
@@ -132,7 +109,7 @@ fn is_even(s: &[u8]) -> bool {
 }
 
 // Letters and digits: one of them so many times where they are many and the same.
-fn plain(out: &mut [u8], at: usize, s: &[u8]) -> usize {
+fn plain(out: &mut [u8; 4200], at: usize, s: &[u8]) -> usize {
     if s.len() <= LONG {
         return text(out, at, s);
     }
@@ -144,7 +121,7 @@ fn plain(out: &mut [u8], at: usize, s: &[u8]) -> usize {
 }
 
 // Bytes as a line gives them.
-pub fn bytes(out: &mut [u8], at: usize, s: &[u8]) -> usize {
+pub fn bytes(out: &mut [u8; 4200], at: usize, s: &[u8]) -> usize {
     if s.len() < 1 {
         return text(out, at, b"\"\"");
     }

@@ -8,19 +8,19 @@ use capi::memtable::BavoView;
 use capi::memtable::bavo_value;
 
 // A refusal's number.
-pub fn refused(out: &mut [u8], at: usize, refusal: u32) -> usize {
+pub fn refused(out: &mut [u8; 4200], at: usize, refusal: u32) -> usize {
     put::counted(out, at, b"refused ", refusal as usize)
 }
 
 // A refused move, with the two numbers of the cursor that it handed back.
-pub fn refused_move(out: &mut [u8], refusal: u32, on: u32, node: usize) -> usize {
+pub fn refused_move(out: &mut [u8; 4200], refusal: u32, on: u32, node: usize) -> usize {
     let end = refused(out, 0, refusal);
     let end = put::counted(out, end, b" back ", on as usize);
     put::counted(out, end, b" ", node)
 }
 
 // The bytes of a view, or its refusal.
-pub fn view(out: &mut [u8], at: usize, image: &[u8], v: BavoView) -> usize {
+pub fn view(out: &mut [u8; 4200], at: usize, image: &[u8], v: BavoView) -> usize {
     if v.refusal != 0 {
         return refused(out, at, v.refusal);
     }
@@ -28,7 +28,7 @@ pub fn view(out: &mut [u8], at: usize, image: &[u8], v: BavoView) -> usize {
 }
 
 // The same with the place where the bytes stand.
-pub fn view_at(out: &mut [u8], image: &[u8], table: u32, v: BavoView) -> usize {
+pub fn view_at(out: &mut [u8; 4200], image: &[u8], table: u32, v: BavoView) -> usize {
     let end = view(out, 0, image, v);
     if v.refusal != 0 {
         return end;
@@ -38,20 +38,20 @@ pub fn view_at(out: &mut [u8], image: &[u8], table: u32, v: BavoView) -> usize {
 }
 
 // The first or the second table; 0 is none.
-fn in_table(out: &mut [u8], at: usize, table: u32) -> usize {
+fn in_table(out: &mut [u8; 4200], at: usize, table: u32) -> usize {
     let from = if table == 2 { 5 } else { 0 };
     let len = if table == 0 { 0 } else { 5 };
     put::text(out, at, part(b" in A in B", from, len))
 }
 
 // A node, and of a pair its table.
-pub fn place(out: &mut [u8], at: usize, table: u32, node: usize) -> usize {
+pub fn place(out: &mut [u8; 4200], at: usize, table: u32, node: usize) -> usize {
     let end = in_table(out, at, table);
     put::counted(out, end, b" node ", node)
 }
 
 // The value and the place of a found node.
-fn found(out: &mut [u8], at: usize, image: &[u8], table: u32, node: usize) -> usize {
+fn found(out: &mut [u8; 4200], at: usize, image: &[u8], table: u32, node: usize) -> usize {
     let end = put::byte(out, at, b' ');
     let end = view(out, end, image, bavo_value(image, node));
     place(out, end, table, node)
@@ -59,7 +59,7 @@ fn found(out: &mut [u8], at: usize, image: &[u8], table: u32, node: usize) -> us
 
 // What a lookup answered; the image is that of the found node.
 pub fn lookup(
-    out: &mut [u8],
+    out: &mut [u8; 4200],
     image: &[u8],
     answer: u32,
     table: u32,
@@ -75,7 +75,7 @@ pub fn lookup(
 }
 
 // Whether an entry is held.
-pub fn presence(out: &mut [u8], r: BavoPresence) -> usize {
+pub fn presence(out: &mut [u8; 4200], r: BavoPresence) -> usize {
     if r.refusal != 0 {
         return refused(out, 0, r.refusal);
     }
@@ -84,7 +84,7 @@ pub fn presence(out: &mut [u8], r: BavoPresence) -> usize {
 }
 
 // A text that begins with 'not ', or without that.
-pub fn unless(out: &mut [u8], yes: bool, s: &[u8]) -> usize {
+pub fn unless(out: &mut [u8; 4200], yes: bool, s: &[u8]) -> usize {
     if yes {
         return put::text(out, 0, rest(s, 4));
     }

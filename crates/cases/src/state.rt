@@ -1,5 +1,6 @@
 // What lines carry from one to the next, in numbers: who answers; the table of the last fresh or add, 0 or 1; the lengths of the two
 // images; the visible cursor and the two entry cursors, as C keeps them.
+ghost use Prim.Native.Nat.{_≤_};
 use crate::text::part;
 use capi::db_iter::BavoCursor;
 use capi::entry_iter::BavoEntryCursor;
@@ -19,7 +20,9 @@ pub const UNCLEAR: usize = 100000;
 pub const QUIET: usize = 0;
 
 // Where a table's memory begins.
-pub fn start(t: usize) -> usize {
+pub fn start(t: usize) -> usize
+    ensures { λ r. ⌜ r ≤ 65537 ⌝ }
+{
     if t == 1 { SIZE } else { 0 }
 }
 

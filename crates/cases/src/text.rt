@@ -16,6 +16,11 @@ pub fn part(s: &[u8], from: usize, len: usize) -> &[u8] {
     &s[from..to]
 }
 
+// The first bytes of a line or of a key.
+pub fn front(s: &[u8; 4200], len: usize) -> &[u8] {
+    part(s, 0, len)
+}
+
 // What is left behind so many bytes.
 pub fn rest(s: &[u8], from: usize) -> &[u8] {
     if from > s.len() {

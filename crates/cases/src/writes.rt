@@ -3,6 +3,7 @@ use crate::entry;
 use crate::given::hexes;
 use crate::given::number;
 use crate::given::two;
+use crate::memory;
 use crate::ops;
 use crate::put;
 use crate::show;
@@ -10,6 +11,7 @@ use crate::state;
 use crate::state::QUIET;
 use crate::state::UNCLEAR;
 use crate::text::byte;
+use crate::text::front;
 use crate::text::part;
 use crate::text::rest;
 use crate::text::word;
@@ -39,10 +41,10 @@ fn add(call: &[u8], image: &mut [u8]) -> BavoAdded {
     }
     bavo_add(
         image,
-        part(&keys, 0, asked.len),
+        front(&keys, asked.len),
         asked.number,
         asked.kind,
-        part(&values, 0, value.len),
+        front(&values, value.len),
         height.value as usize,
     )
 }
@@ -72,7 +74,7 @@ fn write_from(call: &[u8], fresh: bool, memory: &mut [u8], from: usize, len: usi
 }
 
 // A refused call, which is to keep every byte.
-fn refused(out: &mut [u8], refusal: u32, image: &[u8], before: &[u8]) -> usize {
+fn refused(out: &mut [u8; 4200], refusal: u32, image: &[u8], before: &[u8]) -> usize {
     let end = show::refused(out, 0, refusal);
     if same(before, image) {
         return end;
@@ -81,7 +83,7 @@ fn refused(out: &mut [u8], refusal: u32, image: &[u8], before: &[u8]) -> usize {
 }
 
 // What a call that writes answered.
-fn told(out: &mut [u8], r: BavoAdded, image: &[u8], before: &[u8]) -> usize {
+fn told(out: &mut [u8; 4200], r: BavoAdded, image: &[u8], before: &[u8]) -> usize {
     if r.refusal == NO_LINE {
         return UNCLEAR;
     }
@@ -101,11 +103,11 @@ fn call_on(
     t: usize,
     memory: &mut [u8],
     state: &mut [usize; 10],
-    out: &mut [u8],
+    out: &mut [u8; 4200],
 ) -> usize {
     let len = state::len(state, t);
     let from = state::start(t);
-    put::keep(memory, from, state::BEFORE, len);
+    memory::keep(memory, from, state::BEFORE, len);
     state[state::WROTE] = t;
     let r = write_from(call, op == ops::FRESH, memory, from, len);
     told(
@@ -122,7 +124,7 @@ fn lend(memory: &mut [u8], t: usize, len: u64, with: u8, state: &mut [usize; 10]
     if n > state::SIZE {
         return UNCLEAR;
     }
-    put::fill(memory, state::start(t), n, with);
+    memory::fill(memory, state::start(t), n, with);
     state::set_len(state, t, n);
     QUIET
 }
@@ -130,7 +132,7 @@ fn lend(memory: &mut [u8], t: usize, len: u64, with: u8, state: &mut [usize; 10]
 // The same with the byte in hexadecimal.
 fn lend_with(call: &[u8], t: usize, memory: &mut [u8], state: &mut [usize; 10]) -> usize {
     let n = number(word(call, 2));
-    let mut one = [0u8; 1];
+    let mut one = [0u8; 4200];
     let given = hexes(word(call, 3), &mut one);
     if !(n.formed & (given.len == 1)) {
         return UNCLEAR;
@@ -141,16 +143,20 @@ fn lend_with(call: &[u8], t: usize, memory: &mut [u8], state: &mut [usize; 10]) 
 // Overwrites bytes of the image, which are all to lie in it.
 fn set(call: &[u8], t: usize, memory: &mut [u8], len: usize) -> usize {
     let from = number(word(call, 2));
-    let mut with = [0u8; 64];
+    let mut with = [0u8; 4200];
     let given = hexes(word(call, 3), &mut with);
-    if !(from.formed & (given.len > 0)) {
-        return UNCLEAR;
-    }
+    let n = given.len;
     let at = from.value as usize;
-    if part(part(memory, state::start(t), len), at, given.len).len() < 1 {
+    if !(from.formed & (n > 0)) {
         return UNCLEAR;
     }
-    put::over(memory, state::start(t), at, part(&with, 0, given.len));
+    if at > state::SIZE {
+        return UNCLEAR;
+    }
+    if part(state::image(memory, t, len), at, n).len() < 1 {
+        return UNCLEAR;
+    }
+    memory::over(memory, state::start(t) + at, front(&with, n));
     QUIET
 }
 
@@ -178,7 +184,7 @@ pub fn follow(
     t: usize,
     memory: &mut [u8],
     state: &mut [usize; 10],
-    out: &mut [u8],
+    out: &mut [u8; 4200],
 ) -> usize {
     if op == ops::CASE {
         return begin(call, memory, state);

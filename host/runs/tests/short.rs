@@ -7,6 +7,7 @@ use runs::gen::Shape;
 use runs::harm::harm;
 use runs::model::{Entry, Model};
 use runs::ops::{Counts, Op};
+use runs::replay::replay;
 use runs::rng::Rng;
 use runs::scan_images::Pair;
 use runs::scans::{Counts as Scans, Scanner};
@@ -101,4 +102,11 @@ fn scans_of_damaged_images_end() {
         assert_eq!(scanned, Ok(()), "damage: {:?}", pair.patches);
     }
     assert!(counts.ended_refused > 0 && counts.ended_nowhere > 0 && counts.unsound_pairs > 0);
+}
+
+#[test]
+fn the_text_of_cases_holds() {
+    let file = concat!(env!("CARGO_MANIFEST_DIR"), "/../../crates/cases/stdin");
+    let counts = replay(&std::fs::read_to_string(file).expect("the text")).expect("every answer");
+    assert!(counts.iter().all(|count| *count > 600), "{counts:?}");
 }

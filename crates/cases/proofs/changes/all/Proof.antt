@@ -1,13 +1,12 @@
--- `changes::all`: one byte a turn; the slice keeps its length.
+-- `changes::all`: one byte a turn.
 use borrow.Author.Needs.{needs}
-use mathlib.Core.Path.{_≡_}
 use Prim.Native.Nat.{_≤_, _-_}
 use lib.ListN.{length}
 use Rattle.cases.proofs.changes.all.Statement.{statement}
 use Rattle.cases.proofs.changes.all.Tie as tie
 
 abbrev Inv-loop : tie.InvT-loop
-Inv-loop out₀ a b end₀ i₀ t6 out end i = (i ≤ length a) × (length out ≡ length out₀)
+Inv-loop out₀ a b end₀ i₀ t6 out end i = i ≤ length a
 
 abbrev μ-loop : tie.MeasureT-loop
 μ-loop out₀ a b end₀ i₀ t6 out end i = length a - i
@@ -36,14 +35,8 @@ slice-aggregate-text c = search needs
 text-requires : tie.Need-text-requires Inv-loop μ-loop
 text-requires c κs = search needs
 
-same-length : tie.Need-same-length Inv-loop μ-loop
-same-length c = search needs
-
 returns : tie.Need-returns Inv-loop μ-loop
 returns c = search needs
-
-same-length-2 : tie.Need-same-length-2 Inv-loop μ-loop
-same-length-2 c = search needs
 
 returns-2 : tie.Need-returns-2 Inv-loop μ-loop
 returns-2 c = search needs
@@ -62,7 +55,5 @@ all-spec =
     loop-again
     slice-aggregate-text
     text-requires
-    same-length
     returns
-    same-length-2
     returns-2)

@@ -7,7 +7,7 @@ use Rattle.cases.proofs.given.hexes.Statement.{statement}
 use Rattle.cases.proofs.given.hexes.Tie as tie
 
 abbrev Inv-loop : tie.InvT-loop
-Inv-loop s out₀ n i₀ out i = (i ≤ n) × (n + n ≡ length s) × (length out ≡ length out₀)
+Inv-loop s out₀ n i₀ out i = (i ≤ n) × (n + n ≡ length s)
 
 abbrev μ-loop : tie.MeasureT-loop
 μ-loop s out₀ n i₀ out i = n - i
@@ -57,9 +57,6 @@ pair-requires c κs = search needs
 took-requires-3 : tie.Need-took-requires-3 Inv-loop μ-loop
 took-requires-3 c κs = search needs
 
-same-length : tie.Need-same-length Inv-loop μ-loop
-same-length c = search needs
-
 returns-3 : tie.Need-returns-3 Inv-loop μ-loop
 returns-3 c = search needs
 
@@ -80,9 +77,6 @@ loop-again c = search needs
 
 took-requires-4 : tie.Need-took-requires-4 Inv-loop μ-loop
 took-requires-4 c κs = search needs
-
-same-length-2 : tie.Need-same-length-2 Inv-loop μ-loop
-same-length-2 c = search needs
 
 returns-4 : tie.Need-returns-4 Inv-loop μ-loop
 returns-4 c = search needs
@@ -108,7 +102,6 @@ hexes-spec =
     digit-requires-2
     pair-requires
     took-requires-3
-    same-length
     returns-3
     cast-byte
     byte-requires-3
@@ -116,5 +109,4 @@ hexes-spec =
     loop-less
     loop-again
     took-requires-4
-    same-length-2
     returns-4)

@@ -1,13 +1,12 @@
--- `put::text`: one byte a turn; the slice keeps its length.
+-- `put::text`: one byte a turn.
 use borrow.Author.Needs.{needs}
-use mathlib.Core.Path.{_≡_}
 use Prim.Native.Nat.{_≤_, _-_}
 use lib.ListN.{length}
 use Rattle.cases.proofs.put.text.Statement.{statement}
 use Rattle.cases.proofs.put.text.Tie as tie
 
 abbrev Inv-loop : tie.InvT-loop
-Inv-loop out₀ at s end₀ i₀ out end i = (i ≤ length s) × (length out ≡ length out₀)
+Inv-loop out₀ at s end₀ i₀ out end i = i ≤ length s
 
 abbrev μ-loop : tie.MeasureT-loop
 μ-loop out₀ at s end₀ i₀ out end i = length s - i
@@ -30,9 +29,6 @@ loop-less c = search needs
 loop-again : tie.Need-loop-again Inv-loop μ-loop
 loop-again c = search needs
 
-same-length : tie.Need-same-length Inv-loop μ-loop
-same-length c = search needs
-
 returns : tie.Need-returns Inv-loop μ-loop
 returns c = search needs
 
@@ -48,5 +44,4 @@ text-spec =
     add-i
     loop-less
     loop-again
-    same-length
     returns)

@@ -1,16 +1,22 @@
--- `put::keep`: one byte a turn; the slice keeps its length.
+-- `memory::keep`: one byte a turn; the slice keeps its length.
 use borrow.Author.Needs.{needs}
 use mathlib.Core.Path.{_≡_}
 use Prim.Native.Nat.{_≤_, _-_}
 use lib.ListN.{length}
-use Rattle.cases.proofs.put.keep.Statement.{statement}
-use Rattle.cases.proofs.put.keep.Tie as tie
+use Rattle.cases.proofs.memory.keep.Statement.{statement}
+use Rattle.cases.proofs.memory.keep.Tie as tie
 
 abbrev Inv-loop : tie.InvT-loop
-Inv-loop memory₀ from to n end₀ i₀ memory end i = (i ≤ n) × (length memory ≡ length memory₀)
+Inv-loop memory₀ from to n i₀ memory i = (i ≤ n) × (n ≤ 196611) × (to ≤ 196611) × (length memory ≡ length memory₀)
 
 abbrev μ-loop : tie.MeasureT-loop
-μ-loop memory₀ from to n end₀ i₀ memory end i = n - i
+μ-loop memory₀ from to n i₀ memory i = n - i
+
+returns : tie.Need-returns Inv-loop μ-loop
+returns c = search needs
+
+returns-2 : tie.Need-returns-2 Inv-loop μ-loop
+returns-2 c = search needs
 
 loop-holds : tie.Need-loop-holds Inv-loop μ-loop
 loop-holds c = search needs
@@ -21,8 +27,11 @@ rest-requires c κs = search needs
 byte-requires : tie.Need-byte-requires Inv-loop μ-loop
 byte-requires c κs = search needs
 
-byte-requires-2 : tie.Need-byte-requires-2 Inv-loop μ-loop
-byte-requires-2 c κs = search needs
+add-set : tie.Need-add-set Inv-loop μ-loop
+add-set c = search needs
+
+set-requires : tie.Need-set-requires Inv-loop μ-loop
+set-requires c κs = search needs
 
 add-i : tie.Need-add-i Inv-loop μ-loop
 add-i c = search needs
@@ -36,8 +45,8 @@ loop-again c = search needs
 same-length : tie.Need-same-length Inv-loop μ-loop
 same-length c = search needs
 
-returns : tie.Need-returns Inv-loop μ-loop
-returns c = search needs
+returns-3 : tie.Need-returns-3 Inv-loop μ-loop
+returns-3 c = search needs
 
 pub keep-spec : {M : Type 1} → statement M
 keep-spec =
@@ -45,12 +54,15 @@ keep-spec =
     (tie.spec
     Inv-loop
     μ-loop
+    returns
+    returns-2
     loop-holds
     rest-requires
     byte-requires
-    byte-requires-2
+    add-set
+    set-requires
     add-i
     loop-less
     loop-again
     same-length
-    returns)
+    returns-3)
