@@ -117,10 +117,8 @@ impl<'m> Table<'m> {
 
     /// The value of a key at a snapshot; none if it has no entry up to it, or was deleted.
     pub fn get(&self, key: &[u8], snapshot: u64) -> Result<Option<&[u8]>, Refusal> {
-        Ok(match self.lookup(key, snapshot)? {
-            Lookup::Found { value, .. } => Some(value),
-            Lookup::Deleted { .. } | Lookup::Absent { .. } => None,
-        })
+        let view = raw::get_value(self.image, key, snapshot);
+        unless_refused(view.refusal, (view.offset != 0).then(|| view.of(self.image)))
     }
 
     /// What the newest entry of a key up to a snapshot says, with the looks that it took.
