@@ -8,7 +8,7 @@ use Rattle.rule.specs.Lists.{both}
 use Rattle.rule.proofs.Lists.{both-true}
 use Rattle.image.specs.Sound.{headerHolds}
 use Rattle.image.specs.Refusals.{Answer, refused, demand, badImage}
-use Rattle.cursor.specs.Places.{HeadersHold}
+use Rattle.cursor.specs.Going.{HeadersHold}
 
 -- the answer of the test
 pub headers-bad : (f g : List ℕ) {a : Bool} → a ≡ headerHolds f → not a ≡ true → false ≡ both (headerHolds f) (headerHolds g)

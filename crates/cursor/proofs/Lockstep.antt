@@ -15,7 +15,6 @@ use Rattle.rule.proofs.Moves.{same-target}
 use Rattle.image.specs.Limits.{maxKey, maxNumber}
 use Rattle.image.specs.Nodes.{count}
 use Rattle.image.specs.Sound.{Sound}
-use Rattle.image.specs.Refusals as is
 use Rattle.image.specs.Refusals.{Answer, given, refused, demand, badNumber, longKey}
 use Rattle.image.proofs.Sound.{header-complete}
 use Rattle.table.specs.Growth.{Additions}

@@ -31,9 +31,8 @@ use Rattle.table.specs.declared.questions.Hit.the-variants as hit
 use Rattle.table.specs.declared.questions.NewestAt.{NewestAt}
 use Rattle.table.specs.declared.questions.NewestAt.the-variants as newestAt
 use Rattle.table.proofs.Laws.{number-told}
-use Rattle.cursor.specs.Places.{imageOf, heldBefore, allEntries, place, entryAt, keyAt, numberAt, PlaceIn}
-use Rattle.cursor.specs.Merging.{metAt, metIn, nearerOf, soonerOf, HasNode, MeetingIn, NearDamaged, NearestOver, NearestOfAll, versionIn, newerOf, kindOf}
-use Rattle.cursor.specs.Merging.{VersionIn, NewestDamaged, NewestOver, NewestOfAll}
+use Rattle.cursor.specs.Places.{imageOf, heldBefore, allEntries, place, entryAt, keyAt, PlaceIn}
+use Rattle.cursor.specs.Merging.{numberAt, metAt, metIn, nearerOf, soonerOf, HasNode, MeetingIn, NearDamaged, NearestOver, NearestOfAll, versionIn, newerOf, kindOf, VersionIn, NewestDamaged, NewestOver, NewestOfAll}
 use Rattle.cursor.specs.declared.places.Side.{Side}
 use Rattle.cursor.specs.declared.places.Side.the-variants.{First, Second}
 use Rattle.cursor.specs.declared.places.Place.{Place}

@@ -31,9 +31,10 @@ use Rattle.table.specs.declared.memtable_iter.CursorTest.the-variants as test
 use Rattle.table.proofs.Laws.{in-table, first-behind, seek-behind, next-behind, next-nowhere, previous-behind}
 use Rattle.cursor.proofs.Headers.{headers-hold, headers-refused}
 use Rattle.cursor.proofs.Merging.{sound-of, key-told}
-use Rattle.cursor.specs.Places.{imageOf, allEntries, entryAt, keyAt, CursorIn, HeadersHold, inside, refusalAt}
+use Rattle.cursor.specs.Places.{imageOf, allEntries, entryAt, keyAt, CursorIn, inside, refusalAt}
+use Rattle.cursor.specs.Going.{HeadersHold, testAs, movedOf, Went, WentFrom}
 use Rattle.cursor.specs.Walks.{bestOf, LandsOn, WalkDamaged, Ends, FoundLands, Walked}
-use Rattle.cursor.specs.Moves.{asked, testAs, keyGiven, startKey, MovedIs, movedAs, movedOf, LeadsTo, Ahead, Lands, NowhereOr, EndsOn, DamagedFrom, MeetsDamage, LandsIn, Went, WentFrom, Moves}
+use Rattle.cursor.specs.Moves.{asked, keyGiven, startKey, MovedIs, movedAs, LeadsTo, Ahead, Lands, NowhereOr, EndsOn, DamagedFrom, MeetsDamage, LandsIn, Moves}
 use Rattle.cursor.specs.declared.places.Side.{Side}
 use Rattle.cursor.specs.declared.places.Side.the-variants.{First, Second}
 use Rattle.cursor.specs.declared.places.Place.{Place}

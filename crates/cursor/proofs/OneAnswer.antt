@@ -18,8 +18,7 @@ use Rattle.table.specs.declared.refusals.Refusal.the-variants.{BadImage, BadKin
 use Rattle.table.proofs.Laws.{node-held, node-single}
 use Rattle.table.proofs.OneAnswer.{refusalFrom, refusal-back}
 use Rattle.cursor.proofs.Merging.{known}
-use Rattle.cursor.specs.Places.{allEntries, place, entryAt}
-use Rattle.cursor.specs.Walks.{Gives}
+use Rattle.cursor.specs.Places.{allEntries, place, entryAt, Gives}
 use Rattle.cursor.specs.Moves.{asked, keyGiven, startKey, MovedIs, movedTo, movedAs, LeadsTo, Moves, Decided}
 use Rattle.cursor.specs.Pairs.{PairSays, found, deleted, absent, PairLooked, pairAs, GetsPair}
 use Rattle.cursor.specs.Rows.{valueIn, ShowsKey, ShowsValue, Refuses}

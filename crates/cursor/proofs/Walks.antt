@@ -22,8 +22,8 @@ use Rattle.image.proofs.Nearest.{way, onward, past-way, past-admits}
 use Rattle.image.proofs.Landing.{key-read}
 use Rattle.table.specs.Questions.{nodesOf}
 use Rattle.table.proofs.Laws.{node-held, held-length, past-past}
-use Rattle.cursor.specs.Places.{imageOf, allEntries, entryAt, keyAt, PlaceReads}
-use Rattle.cursor.specs.Merging.{HasNode, NearestOfAll, NewestDamaged, NewestOfAll}
+use Rattle.cursor.specs.Places.{imageOf, allEntries, entryAt, keyAt}
+use Rattle.cursor.specs.Merging.{PlaceReads, HasNode, NearestOfAll, NewestDamaged, NewestOfAll}
 use Rattle.cursor.specs.Walks.{StepRule, Stepped, cutFrom, keyFrom, tickOf, spentOf, bestOf, Ends, Walked, Passes, start, more}
 use Rattle.cursor.specs.declared.places.Place.{Place}
 use Rattle.cursor.specs.declared.merging_iter.Meeting.{Meeting}

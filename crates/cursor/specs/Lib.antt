@@ -2,6 +2,7 @@ pub mod Places
 pub mod Merging
 pub mod Walks
 pub mod Moves
+pub mod Going
 pub mod Rows
 pub mod RowSpans
 pub mod Pairs

@@ -1,19 +1,19 @@
 -- What the two tables answer together: the fold of two answers, and what it means.
-use Prim.Native.Nat.{ℕ, _<_, _≤_}
+use Prim.Native.Nat.{ℕ, _≤_}
 use mathlib.Core.Path.{_≡_}
 use mathlib.Core.Logic.{_⊎_}
 use mathlib.Core.List.{List}
 use mathlib.Core.Bool.{Bool, true, false}
 use lib.Dec.{ltb}
-use Rattle.rule.specs.Lists.{cond, none, some, All}
+use Rattle.rule.specs.Lists.{cond, none, some}
 use Rattle.rule.specs.Order.{isLess}
 use Rattle.rule.specs.Entries.{Entry, valueKind, deletionKind}
-use Rattle.rule.specs.Rows.{fits, newest}
+use Rattle.rule.specs.Rows.{newest}
 use Rattle.rule.specs.Nearest.{Least}
 use Rattle.image.specs.Nodes.{entryOf}
 use Rattle.image.specs.Sound.{Sound}
 use Rattle.image.specs.Refusals.{refused, damaged}
-use Rattle.image.specs.EntryMoves.{on, viewRefusal}
+use Rattle.image.specs.EntryMoves.{on, numberView, viewRefusal}
 use Rattle.image.specs.Meaning.{IsNode}
 use Rattle.image.specs.Cuts.{Cut, cmpOf, admits, nearest as nearestIn}
 use Rattle.image.specs.Newest.{newestAt as newestIn}
@@ -21,7 +21,8 @@ use Rattle.table.specs.declared.questions.Hit.{Hit}
 use Rattle.table.specs.declared.questions.Hit.the-variants as hit
 use Rattle.table.specs.declared.questions.NewestAt.{NewestAt}
 use Rattle.table.specs.declared.questions.NewestAt.the-variants as newestAt
-use Rattle.cursor.specs.Places.{allEntries, heldBefore, place, entryAt, keyAt, PlaceReads}
+use Rattle.table.specs.EntryViews.{shownNumber}
+use Rattle.cursor.specs.Places.{imageOf, allEntries, place, entryAt, keyAt, refusalAt, PlaceIn, FirstAsNew}
 use Rattle.cursor.specs.declared.places.Side.{Side}
 use Rattle.cursor.specs.declared.places.Side.the-variants.{First, Second}
 use Rattle.cursor.specs.declared.places.Place.{Place}
@@ -31,6 +32,17 @@ use Rattle.cursor.specs.declared.merging_iter.Nearest.the-variants as ne
 use Rattle.cursor.specs.declared.merging_iter.Version.{Version}
 use Rattle.cursor.specs.declared.merging_iter.Newest.{Newest}
 use Rattle.cursor.specs.declared.merging_iter.Newest.the-variants as newer
+
+-- ---- places
+
+-- the place names a node of its table that can be read whole: its views are not refused
+pub record PlaceReads (f g : List ℕ) (p : Place) : Type 0 where
+  pub inside : PlaceIn f g p
+  pub readable : refusalAt f g p ≡ 0
+
+-- the number at a place as its table shows it
+abbrev pub numberAt : List ℕ → List ℕ → Place → ℕ
+numberAt f g p = shownNumber (numberView (imageOf (p .table) f g) (on (p .node)))
 
 -- ---- the key that comes next
 
@@ -142,10 +154,6 @@ abbrev pub NewestIn : List ℕ → List ℕ → List ℕ → ℕ → Newest → 
 NewestIn f g k s (newer.At v) = VersionIn f g k s v
 NewestIn f g k s newer.Nothing = Unit
 NewestIn f g k s newer.Damaged = NewestDamaged f g k s
-
--- no table before that of the place has an entry of k up to s that is as new
-abbrev pub FirstAsNew : List ℕ → List ℕ → ℕ → List ℕ → Place → Type 0
-FirstAsNew f g s k p = All (λ e. fits k s e ≡ true → e .number < entryAt f g p .number) (heldBefore (p .table) f)
 
 -- the same of an answer
 abbrev pub NewestFirst : List ℕ → List ℕ → List ℕ → ℕ → Newest → Type 0

@@ -19,18 +19,13 @@ use Rattle.image.specs.Cuts as cut
 use Rattle.image.specs.Refusals as is
 use Rattle.image.specs.Refusals.{Answer, refused, given, demand, badImage, noNode, badNumber, longKey, damaged, numberOf}
 use Rattle.table.specs.Refusals.{refusalIs}
-use Rattle.table.specs.declared.refusals.Refusal.the-variants as refusal
-use Rattle.cursor.specs.Places.{allEntries, entryAt, refusalAt, PlaceIn, inside}
-use Rattle.cursor.specs.Walks.{Gives, WalkDamaged, bestOf, LandsOn}
+use Rattle.cursor.specs.Places.{allEntries, entryAt, refusalAt, PlaceIn, inside, Gives}
+use Rattle.cursor.specs.Walks.{WalkDamaged}
 use Rattle.cursor.specs.declared.places.Place.{Place}
 use Rattle.cursor.specs.declared.places.Cursor.{Cursor}
 use Rattle.cursor.specs.declared.places.Cursor.the-variants.{Nowhere, On}
-use Rattle.cursor.specs.declared.walk.Found.{Found}
-use Rattle.cursor.specs.declared.walk.Found.the-variants as found
 use Rattle.cursor.specs.declared.db_iter.Moved.{Moved}
 use Rattle.cursor.specs.declared.db_iter.Moved.the-variants.{To, Refused}
-use Rattle.cursor.specs.declared.db_iter.MoveTest.{MoveTest}
-use Rattle.cursor.specs.declared.db_iter.MoveTest.the-variants.{Passed, Failed}
 
 -- ---- the arguments
 
@@ -43,11 +38,6 @@ asked f g s c t =
     (demand (leb s maxNumber) badNumber
     (demand (leb (length t) maxKey) longKey
     (given tt)))))
-
--- the answer of the test
-abbrev pub testAs : MoveTest → Answer {0} Unit
-testAs Passed = given tt
-testAs (Failed q) = refused (refusalIs q)
 
 -- the key that a move is given
 abbrev pub keyGiven : Move → List ℕ
@@ -76,12 +66,6 @@ movedTo c = record { refusal = 0; cursor = c }
 abbrev pub movedAs : Moved → MovedIs
 movedAs (To c) = movedTo c
 movedAs (Refused q c) = record { refusal = numberOf (refusalIs q); cursor = c }
-
--- the end of a walk; damage hands back the cursor
-abbrev pub movedOf : Found → Cursor → Moved
-movedOf (found.At p) c = To (On p)
-movedOf found.Nothing c = To Nowhere
-movedOf found.Damaged c = Refused refusal.Damaged c
 
 -- it leads to the place of the entry that gives the row of the key, or nowhere if there is no key
 abbrev pub LeadsTo : List ℕ → List ℕ → ℕ → Maybe (List ℕ) → MovedIs → Type 0
@@ -138,16 +122,6 @@ abbrev pub LandsIn : Move → List ℕ → List ℕ → ℕ → Cursor → Moved
 LandsIn v f g s c = EndsOn (Lands v f g s c) (MeetsDamage v f g s c) c
 
 -- ---- the promises
-
--- what a walk behind a cut comes to
-pub record Went (f g : List ℕ) (s : ℕ) (c : Cut) (t : List ℕ) (at : Cursor) (r : Moved) : Type 0 where
-  pub rule : Sound f → Sound g → LeadsTo f g s (bestOf f g s c t) (movedAs r)
-  pub lands : EndsOn (LandsOn f g s c t) (WalkDamaged f g s c t) at (movedAs r)
-
--- and behind a cut at the key of a place
-pub record WentFrom (f g : List ℕ) (s : ℕ) (c : Cut) (p : Place) (at : Cursor) (r : Moved) : Type 0 where
-  pub rule : Sound f → Sound g → PlaceIn f g p → LeadsTo f g s (bestOf f g s c (entryAt f g p .key)) (movedAs r)
-  pub lands : EndsOn (LandsOn f g s c (entryAt f g p .key)) (DamagedFrom f g s c p) at (movedAs r)
 
 -- what a move promises
 pub record Moves (v : Move) (f g : List ℕ) (s : ℕ) (c : Cursor) (r : Moved) : Type 0 where

@@ -1,14 +1,15 @@
--- Places in two tables, and what stands there.
-use Prim.Native.Nat.{ℕ}
+-- Places in two tables, what stands there, and the place that gives a row.
+use Prim.Native.Nat.{ℕ, _<_}
 use mathlib.Core.Path.{_≡_}
 use mathlib.Core.List.{List, [], _++_}
 use mathlib.Core.Bool.{Bool, true}
-use Rattle.rule.specs.Entries.{Entry}
+use Rattle.rule.specs.Lists.{some, All}
+use Rattle.rule.specs.Entries.{Entry, valueKind}
+use Rattle.rule.specs.Rows.{fits, newest}
 use Rattle.image.specs.Nodes.{entryOf}
-use Rattle.image.specs.Sound.{headerHolds, held}
-use Rattle.image.specs.EntryMoves.{on, inTable, viewed, keyView, valueView, numberView, viewRefusal}
+use Rattle.image.specs.Sound.{held}
+use Rattle.image.specs.EntryMoves.{on, inTable, viewed, keyView, valueView, viewRefusal}
 use Rattle.image.specs.Meaning.{IsNode}
-use Rattle.table.specs.EntryViews.{shownNumber}
 use Rattle.cursor.specs.declared.places.Side.{Side}
 use Rattle.cursor.specs.declared.places.Side.the-variants.{First, Second}
 use Rattle.cursor.specs.declared.places.Place.{Place}
@@ -45,10 +46,6 @@ keyAt f g p = viewed (imageOf (p .table) f g) (keyView (imageOf (p .table) f g) 
 abbrev pub valueAt : List ℕ → List ℕ → Place → List ℕ
 valueAt f g p = viewed (imageOf (p .table) f g) (valueView (imageOf (p .table) f g) (on (p .node)))
 
--- the number at a place as its table shows it
-abbrev pub numberAt : List ℕ → List ℕ → Place → ℕ
-numberAt f g p = shownNumber (numberView (imageOf (p .table) f g) (on (p .node)))
-
 -- the place names a node of its table
 abbrev pub PlaceIn : List ℕ → List ℕ → Place → Type 0
 PlaceIn f g p = IsNode (imageOf (p .table) f g) (p .node)
@@ -58,21 +55,23 @@ abbrev pub CursorIn : List ℕ → List ℕ → Cursor → Type 0
 CursorIn f g Nowhere = Unit
 CursorIn f g (On p) = PlaceIn f g p
 
--- the headers of both tables hold
-pub record HeadersHold (f g : List ℕ) : Type 0 where
-  pub first : headerHolds f ≡ true
-  pub second : headerHolds g ≡ true
-
 -- the refusal that the views get at a place, or 0
 abbrev pub refusalAt : List ℕ → List ℕ → Place → ℕ
 refusalAt f g p = viewRefusal (imageOf (p .table) f g) (on (p .node))
-
--- the place names a node of its table that can be read whole: its views are not refused
-pub record PlaceReads (f g : List ℕ) (p : Place) : Type 0 where
-  pub inside : PlaceIn f g p
-  pub readable : refusalAt f g p ≡ 0
 
 -- the cursor names a node of its table, or none
 abbrev pub inside : List ℕ → List ℕ → Cursor → Bool
 inside f g Nowhere = true
 inside f g (On p) = inTable (imageOf (p .table) f g) (on (p .node))
+
+-- no table before that of the place has an entry of k up to s that is as new
+abbrev pub FirstAsNew : List ℕ → List ℕ → ℕ → List ℕ → Place → Type 0
+FirstAsNew f g s k p = All (λ e. fits k s e ≡ true → e .number < entryAt f g p .number) (heldBefore (p .table) f)
+
+-- p is the place of the entry that gives the row of k at s; in a tie between the tables it is the first's. `newest-is` fixes the entry, and `first` the
+-- table where the very same entry stands in both
+pub record Gives (f g : List ℕ) (s : ℕ) (k : List ℕ) (p : Place) : Type 0 where
+  pub inside : PlaceIn f g p
+  pub newest-is : newest k s (allEntries f g) ≡ some (entryAt f g p)
+  pub value-is : entryAt f g p .kind ≡ valueKind
+  pub first : FirstAsNew f g s k p

@@ -13,8 +13,8 @@ use Rattle.rule.specs.Moves.{best}
 use Rattle.rule.specs.Nearest.{Least}
 use Rattle.image.specs.Sound.{Sound}
 use Rattle.image.specs.Cuts.{Cut, cmpOf, admits, pastOf}
-use Rattle.cursor.specs.Places.{allEntries, entryAt, keyAt, PlaceIn, PlaceReads}
-use Rattle.cursor.specs.Merging.{MeetingIn, NearDamaged, NewestDamaged, FirstAsNew}
+use Rattle.cursor.specs.Places.{allEntries, entryAt, keyAt, Gives}
+use Rattle.cursor.specs.Merging.{PlaceReads, MeetingIn, NearDamaged, NewestDamaged}
 use Rattle.cursor.specs.declared.places.Place.{Place}
 use Rattle.cursor.specs.declared.merging_iter.Meeting.{Meeting}
 use Rattle.cursor.specs.declared.walk.Step.{Step}
@@ -26,14 +26,6 @@ use Rattle.cursor.specs.declared.walk.Spent.{Spent}
 use Rattle.cursor.specs.declared.walk.Spent.the-variants.{Rest, Over}
 use Rattle.cursor.specs.declared.walk.Found.{Found}
 use Rattle.cursor.specs.declared.walk.Found.the-variants as found
-
--- p is the place of the entry that gives the row of k at s; in a tie between the tables it is the first's. `newest-is` fixes the entry, and `first` the
--- table where the very same entry stands in both
-pub record Gives (f g : List ℕ) (s : ℕ) (k : List ℕ) (p : Place) : Type 0 where
-  pub inside : PlaceIn f g p
-  pub newest-is : newest k s (allEntries f g) ≡ some (entryAt f g p)
-  pub value-is : entryAt f g p .kind ≡ valueKind
-  pub first : FirstAsNew f g s k p
 
 -- on any bytes: p can be read whole, the cut admits its key, and its entry is a value up to s
 pub record LandsOn (f g : List ℕ) (s : ℕ) (c : Cut) (t : List ℕ) (p : Place) : Type 0 where

@@ -3,8 +3,10 @@
 ghost use mathlib.Core.Path.{_≡_};
 ghost use Rattle.rule.specs.Moves as rule;
 ghost use Rattle.table.specs.Questions.{cutOf};
-ghost use Rattle.cursor.specs.Places.{HeadersHold, inside};
-ghost use Rattle.cursor.specs.Moves.{testAs, asked, movedOf, Went, WentFrom, Moves};
+ghost use Rattle.cursor.specs.Places.{inside};
+ghost use Rattle.cursor.specs.Going.{HeadersHold};
+ghost use Rattle.cursor.specs.Moves.{asked, Moves};
+ghost use Rattle.cursor.specs.Going.{testAs, movedOf, Went, WentFrom};
 use crate::places::Cursor;
 use crate::places::Place;
 use crate::places::headers_hold;

@@ -2,7 +2,8 @@
 // and of equal numbers, the first table's stands.
 ghost use mathlib.Core.Path.{_≡_};
 ghost use Rattle.table.specs.Questions.{cutOf};
-ghost use Rattle.cursor.specs.Places.{keyAt, numberAt};
+ghost use Rattle.cursor.specs.Places.{keyAt};
+ghost use Rattle.cursor.specs.Merging.{numberAt};
 ghost use Rattle.table.specs.Memtable.{lookupAs};
 ghost use Rattle.cursor.specs.Pairs.{answersOf, looksTaken, FewLooks, toldBy, pairAs, GetsPair};
 ghost use Rattle.cursor.specs.Merging.{metAt, metIn, nearerOf, soonerOf, NearestOfAll, versionIn, newerOf, NewestOfAll};

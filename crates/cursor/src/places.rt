@@ -2,7 +2,8 @@
 ghost use mathlib.Core.Path.{_≡_};
 ghost use Rattle.rule.specs.Lists.{both};
 ghost use Rattle.image.specs.Sound.{headerHolds};
-ghost use Rattle.cursor.specs.Places.{imageOf, keyAt, numberAt, refusalAt};
+ghost use Rattle.cursor.specs.Places.{imageOf, keyAt, refusalAt};
+ghost use Rattle.cursor.specs.Merging.{numberAt};
 use table::entry_views::entry_key;
 use table::entry_views::entry_number;
 use table::entry_views::entry_refusal;

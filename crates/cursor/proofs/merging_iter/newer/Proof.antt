@@ -1,5 +1,5 @@
 use Rattle.cursor.proofs.Merging.{newer-second, newer-first}
-use Rattle.cursor.specs.Places.{numberAt}
+use Rattle.cursor.specs.Merging.{numberAt}
 use borrow.Author.Needs.{needs}
 use Rattle.cursor.proofs.merging_iter.newer.Statement.{statement}
 use Rattle.cursor.proofs.merging_iter.newer.Tie as tie

@@ -60,9 +60,8 @@ lead-to-requires c κs =
 put-word-requires-3 : tie.Need-put-word-requires-3
 put-word-requires-3 c κs =
     let lead = c .before .before .before in
-    let ten-back = lead .before .before .before .before .before .before .before .before .before .before in
-    let twenty-back = ten-back .before .before .before .before .before .before .before .before .before .before in
-    let within = twenty-back .before .before .before .pre .sized .within in
+    let within = lead .before .before .before .before .before .before .before .before .before .before .before .before
+    .before .before .before .before .before .before .before .before .before .before .before .pre .sized .within in
     omega (arith, within .low, within .high, lead .lead-to .ensures)
 
 same-length : tie.Need-same-length
