@@ -14,7 +14,8 @@ use crate::text::part;
 use crate::text::word;
 use crate::writes;
 
-// Two numbers become a cursor.
+// Two numbers become a cursor: from the first word on behind `cursor`, from the second behind `entry_cursor` and its table, as these two
+// are numbered.
 fn set_cursor(op: usize, call: &[u8], t: usize, state: &mut [usize; 10]) -> usize {
     let n = two(call, op);
     if !(n.formed & (n.first <= 4294967295)) {
