@@ -13,6 +13,7 @@ use capi::memtable::BavoLookup;
 use capi::memtable::bavo_check;
 use capi::memtable::bavo_contains;
 use capi::memtable::bavo_get;
+use capi::memtable::bavo_get_value;
 use capi::memtable::bavo_value;
 use capi::memtable::bavo_value_refusal;
 
@@ -24,7 +25,7 @@ fn lookup(out: &mut [u8; 4200], image: &[u8], r: BavoLookup) -> usize {
     show::lookup(out, image, r.answer, 0, r.node, r.looks)
 }
 
-// The calls that take a key: a lookup, and whether an entry is held.
+// The calls that take a key: a lookup, the value in one call, and whether an entry is held.
 fn with_key(op: usize, s: &[u8], image: &[u8], out: &mut [u8; 4200]) -> usize {
     let mut space = [0u8; 4200];
     let held = op == ops::CONTAINS;
@@ -37,6 +38,9 @@ fn with_key(op: usize, s: &[u8], image: &[u8], out: &mut [u8; 4200]) -> usize {
     if held {
         let r = bavo_contains(image, key, asked.number, asked.kind);
         return show::presence(out, r);
+    }
+    if op == ops::GET_VALUE {
+        return show::view_at(out, image, 0, bavo_get_value(image, key, asked.number));
     }
     lookup(out, image, bavo_get(image, key, asked.number))
 }

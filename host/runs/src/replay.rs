@@ -134,6 +134,10 @@ impl State {
                 let found = || format!("{} node {}", self.value(t, got.node), got.node);
                 refused_or(got.refusal, || looked(got.answer, got.looks, found))
             }
+            "get_value" => {
+                let (key, snapshot) = keyed(word)?;
+                view_at(image, raw::get_value(image, &bytes(key)?, snapshot))
+            }
             "contains" => {
                 let (key, number, kind, value) = entry(word)?;
                 let got = value.is_empty().then(|| raw::contains(image, &key, number, kind))?;
