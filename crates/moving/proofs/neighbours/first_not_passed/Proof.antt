@@ -1,5 +1,3 @@
-use mathlib.Core.Path.{sym}
-use mathlib.Core.Bool.{true≢false}
 use borrow.Author.Needs.{needs}
 use Rattle.moving.proofs.neighbours.first_not_passed.Statement.{statement}
 use Rattle.moving.proofs.neighbours.first_not_passed.Tie as tie
@@ -23,13 +21,13 @@ returns-2 : tie.Need-returns-2
 returns-2 c =
     let found = c .before .before .before .search in let pre = c .before .before .before .before .before .before .pre in
     let at = rw (c .before .spot .given .1) at (found .ensures .spot) in
-    (record { within = pre; most = at .1 }, at .2, λ e. at .0)
+    (record { within = pre; most = at .1 }, at .2, at .0)
 
 returns-3 : tie.Need-returns-3
 returns-3 c =
     let found = c .before .before .before .search in let pre = c .before .before .before .before .before .before .pre in
     let at = rw (c .before .spot2 .given .1) at (found .ensures .spot) in
-    (record { within = pre; most = at .1 }, at .2, λ e. absurd (true≢false (sym e)))
+    (record { within = pre; most = at .1 }, at .2, tt)
 
 pub first-not-passed-spec : {M : Type 1} → statement M
 first-not-passed-spec =

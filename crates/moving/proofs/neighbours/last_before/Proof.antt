@@ -1,5 +1,3 @@
-use mathlib.Core.Path.{sym}
-use mathlib.Core.Bool.{true≢false}
 use native.Mathlib.Omega.{arith}
 use borrow.Author.Needs.{needs}
 use Rattle.moving.proofs.neighbours.last_before.Statement.{statement}
@@ -24,13 +22,13 @@ returns-2 : tie.Need-returns-2
 returns-2 c =
     let found = c .before .before .before .search in let pre = c .before .before .before .before .before .before .pre in
     let at = rw (c .before .spot .given .1) at (found .ensures .spot) in
-    (record { within = pre; most = omega arith }, at .2, λ e. absurd (true≢false (sym e)))
+    (record { within = pre; most = omega arith }, at .2, tt)
 
 returns-3 : tie.Need-returns-3
 returns-3 c =
     let found = c .before .before .before .search in let pre = c .before .before .before .before .before .before .pre in
     let at = rw (c .before .spot2 .given .1) at (found .ensures .spot) in
-    (record { within = pre; most = at .0 }, at .2, λ e. absurd (true≢false (sym e)))
+    (record { within = pre; most = at .0 }, at .2, tt)
 
 pub last-before-spec : {M : Type 1} → statement M
 last-before-spec =

@@ -47,8 +47,11 @@ returns-6 : tie.Need-returns-6
 returns-6 c = let at = rw (c .before .before .stands .given .1) at (c .before .before .before .before .first-not-passed .ensures) in omega (arith, at .1, at .0 .within .few)
 
 held-at-requires : tie.Need-held-at-requires
-held-at-requires c κs = let at = rw (c .before .before .stands .given .1) at (c .before .before .before .before .first-not-passed .ensures) in
-    (record { within = at .0 .within; least = at .2 (not-false _ (c .if4 .left)); most = at .0 .most }, omega (arith, at .1, at .0 .within .few))
+held-at-requires c κs =
+    let stands = c .before .before .stands .given in
+    let at = rw (stands .1) at (c .before .before .before .before .first-not-passed .ensures) in
+    let same = not-false (stands .0 .1 .0) (c .if4 .left) in
+    (record { within = at .0 .within; least = rw same at (at .2); most = at .0 .most }, omega (arith, at .1, at .0 .within .few))
 
 returns-7 : tie.Need-returns-7
 returns-7 c = search needs
