@@ -55,6 +55,7 @@ abbrev pub bareSpan : Answer LookupIs → Answer Span
 bareSpan (refused r) = refused r
 bareSpan (given a) = given emptySpan
 
+-- what is told of such an answer, a part of any image
 pub record Bares (a : Answer LookupIs) (r : SpanOn) : Type 0 where
   pub exact : spanAs r ≡ bareSpan a
   pub lies : (xs : List ℕ) → SpanLies xs r
