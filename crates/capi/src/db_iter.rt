@@ -22,7 +22,7 @@ pub(crate) fn side_number(side: Side) -> u32
 
 // What a lookup in a pair answers: 0 absent, 1 found in the table at the node, 2 deleted.
 #[repr(C)]
-#[derive(Drop)]
+#[derive(Clone, Copy)]
 pub struct BavoPairLookup {
     pub refusal: u32,
     pub answer: u32,
@@ -80,7 +80,7 @@ pub extern "C" fn bavo_pair_get(
 
 // A visible cursor: 0 nowhere, 1 on the node of the first table, 2 of the second.
 #[repr(C)]
-#[derive(Drop)]
+#[derive(Clone, Copy)]
 pub struct BavoCursor {
     pub table: u32,
     pub node: usize,
@@ -113,7 +113,7 @@ pub(crate) fn cursor_of(at: BavoCursor) -> Cursor
 
 // Where a move leads; a refused one hands back the cursor exactly as it was handed.
 #[repr(C)]
-#[derive(Drop)]
+#[derive(Clone, Copy)]
 pub struct BavoMoved {
     pub refusal: u32,
     pub table: u32,

@@ -18,7 +18,7 @@ use table::memtable_iter::{
 
 // An entry cursor: 0 nowhere, 1 on the node.
 #[repr(C)]
-#[derive(Drop)]
+#[derive(Clone, Copy)]
 pub struct BavoEntryCursor {
     pub on: u32,
     pub node: usize,
@@ -39,7 +39,7 @@ fn entry_cursor_of(at: BavoEntryCursor) -> EntryCursor
 
 // Where a move leads; a refused one hands back the cursor exactly as it was handed.
 #[repr(C)]
-#[derive(Drop)]
+#[derive(Clone, Copy)]
 pub struct BavoEntryMoved {
     pub refusal: u32,
     pub on: u32,

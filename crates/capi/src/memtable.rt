@@ -34,7 +34,7 @@ pub extern "C" fn bavo_fresh(image: &mut [u8]) -> u32
 
 // What an addition answers; refused, the node is 0.
 #[repr(C)]
-#[derive(Drop)]
+#[derive(Clone, Copy)]
 pub struct BavoAdded {
     pub refusal: u32,
     pub node: usize,
@@ -78,7 +78,7 @@ pub extern "C" fn bavo_check(image: &[u8]) -> bool
 
 // Whether an entry is held: 1, or 0.
 #[repr(C)]
-#[derive(Drop)]
+#[derive(Clone, Copy)]
 pub struct BavoPresence {
     pub refusal: u32,
     pub held: u32,
@@ -118,7 +118,7 @@ pub extern "C" fn bavo_contains(image: &[u8], key: &[u8], number: u64, kind: u8)
 
 // What a lookup answers: 0 absent, 1 found at the node, 2 deleted.
 #[repr(C)]
-#[derive(Drop)]
+#[derive(Clone, Copy)]
 pub struct BavoLookup {
     pub refusal: u32,
     pub answer: u32,
@@ -168,7 +168,7 @@ pub extern "C" fn bavo_get(image: &[u8], key: &[u8], snapshot: u64) -> BavoLooku
 
 // A part of the image; refused, nowhere, without a row and of a deletion's value it is the empty part at 0.
 #[repr(C)]
-#[derive(Drop)]
+#[derive(Clone, Copy)]
 pub struct BavoView {
     pub refusal: u32,
     pub offset: usize,

@@ -12,7 +12,7 @@ use cursor::row_views::{RowSpan, row_key_span, row_refusal, row_value_span};
 
 // A part of the first image (1) or of the second (2). Nowhere, and refused, there is none: 0, 0, 0.
 #[repr(C)]
-#[derive(Drop)]
+#[derive(Clone, Copy)]
 pub struct BavoRowView {
     pub refusal: u32,
     pub table: u32,

@@ -17,7 +17,7 @@ use table::questions::Cut;
 use table::refusals::Refusal;
 
 // What a move answers: where it leads, or why it was refused and the cursor that it was handed.
-#[derive(Drop)]
+#[derive(Clone, Copy)]
 pub enum Moved {
     To(Cursor),
     Refused(Refusal, Cursor),

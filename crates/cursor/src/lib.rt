@@ -1,4 +1,6 @@
 // The visible cursor over two tables.
+#![tactic(auto)]
+
 pub mod places; // places.rt: places in two tables
 pub mod merging_iter; // merging_iter.rt: what the two tables answer together
 pub mod walk; // walk.rt: from a cut on, the first key that has a row

@@ -176,7 +176,7 @@ pub(crate) fn newest_entry<'a>(
 }
 
 // What a lookup in a pair answers, with the looks that it took over the tables asked.
-#[derive(Drop)]
+#[derive(Clone, Copy)]
 pub enum PairLookup {
     Found { place: Place, looks: usize },
     Deleted { looks: usize },

@@ -10,21 +10,21 @@ use table::memtable_iter::EntryCursor;
 use table::nodes::header_holds;
 
 // Which of the two tables.
-#[derive(Drop)]
+#[derive(Clone, Copy)]
 pub enum Side {
     First,
     Second,
 }
 
 // A node of one of them.
-#[derive(Drop)]
+#[derive(Clone, Copy)]
 pub struct Place {
     pub table: Side,
     pub node: usize,
 }
 
 // Nowhere, or on a place.
-#[derive(Drop)]
+#[derive(Clone, Copy)]
 pub enum Cursor {
     Nowhere,
     On(Place),

@@ -1,5 +1,7 @@
 // Made by tools/moving: table and cursor once more, in bounds, without overflow and with an end whatever each read of a lent byte
 // gives, so also when bytes change between any two reads.
+#![tactic(auto)]
+
 pub mod words; // words.rt: the words of an image, and bytes written to it
 pub mod key_types; // key_types.rt: number, tag, lengths and order
 pub mod entries; // entries.rt: the bytes of an entry

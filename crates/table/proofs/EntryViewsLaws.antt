@@ -7,9 +7,6 @@ use mathlib.Core.List.{List, [], ◌∷◌}
 use mathlib.Core.Bool.{true}
 use lib.ListN.{length, take, drop}
 use borrow.Author.Tests.{eq-eqb, ne_eqb}
-use types.Run.{OneOf}
-use denote.Enum.Declared.{tag_of}
-use Rattle.table.specs.contracts.entry_views.PartsOn.{the_type}
 use Rattle.rule.specs.Lists.{Maybe, none, some}
 use Rattle.rule.specs.Entries.{value_kind}
 use Rattle.image.specs.Readers.{got, bad}
@@ -73,9 +70,9 @@ Bare (parts.Node p) = ⊥
 Bare (parts.Refused q) = Unit
 
 -- what a `let .. else` that asks for a node knows in its else
-pub bare_else : (r : PartsOn) → OneOf (0 ∷ 2 ∷ []) (tag_of the_type r) → Bare r
+pub bare_else : (r : PartsOn) → ((p : Parts) → r ≡ parts.Node p → ⊥) → Bare r
 bare_else parts.Nowhere k = tt
-bare_else (parts.Node p) k = ⊎_elim (λ e. omega arith) (λ e. omega arith) k
+bare_else (parts.Node p) k = absurd (k p refl)
 bare_else (parts.Refused q) k = tt
 
 module _ (xs : List ℕ) (c : Cursor) (r : PartsOn) (is : PartsOnIs xs c r) where

@@ -8,9 +8,6 @@ use mathlib.Core.Bool.{Bool, true, false, not}
 use lib.ListN.{length}
 use lib.Dec.{leb, eqb}
 use borrow.Author.Tests.{lt-leb, le-leb, eq-eqb, ne_eqb, eqb-true, not-true, not-false}
-use types.Run.{OneOf}
-use denote.Enum.Declared.{tag_of}
-use Rattle.table.specs.contracts.memtable.Lookup.{the_type}
 use Rattle.rule.specs.Lists.{cond, some}
 use Rattle.rule.specs.Order.{compare_keys, is_equal}
 use Rattle.rule.specs.Entries.{Entry, value_kind}
@@ -129,8 +126,8 @@ Bare (lookup.Absent looks) = Unit
 Bare (lookup.Refused q) = Unit
 
 -- what a `let .. else` that asks for the found case knows in its else
-pub bare_else : (r : Lookup) → OneOf (1 ∷ 2 ∷ 3 ∷ []) (tag_of the_type r) → Bare r
-bare_else (lookup.Found i looks) k = ⊎_elim (λ e. omega arith) (λ l. ⊎_elim (λ e. omega arith) (λ e. omega arith) l) k
+pub bare_else : (r : Lookup) → ((i looks : ℕ) → r ≡ lookup.Found i looks → ⊥) → Bare r
+bare_else (lookup.Found i looks) k = absurd (k i looks refl)
 bare_else (lookup.Deleted looks) k = tt
 bare_else (lookup.Absent looks) k = tt
 bare_else (lookup.Refused q) k = tt

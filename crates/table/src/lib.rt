@@ -1,4 +1,6 @@
 // A table: a skip list of entries in one slice of bytes.
+#![tactic(auto)]
+
 pub mod words; // words.rt: the words of an image, and bytes written to it
 pub mod key_types; // key_types.rt: number, tag, lengths and order
 pub mod entries; // entries.rt: the bytes of an entry

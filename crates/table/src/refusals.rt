@@ -3,7 +3,7 @@ ghost use Rattle.std.specs.Prelude.{◌≡◌};
 ghost use Rattle.image.specs.Refusals.{number_of};
 ghost use Rattle.table.specs.Refusals.{refusal_is};
 
-#[derive(Drop)]
+#[derive(Clone, Copy)]
 pub enum Refusal {
     // Slice length or header field out of its limits.
     BadImage,
