@@ -66,13 +66,7 @@ fn plain_pair_lookup(a: PairLookup) -> BavoPairLookup
 }
 
 // The newest entry of a key up to a snapshot in a pair. Refusals 1 (first table, then second), 3, 4, 9.
-#[unsafe(no_mangle)]
-pub extern "C" fn bavo_pair_get(
-    first: &[u8],
-    second: &[u8],
-    key: &[u8],
-    snapshot: u64,
-) -> BavoPairLookup
+pub fn bavo_pair_get(first: &[u8], second: &[u8], key: &[u8], snapshot: u64) -> BavoPairLookup
     ensures { Plainly plain_pair_lookup (λ a. GetsPair first.now second.now key.now snapshot a) result }
 {
     plain_pair_lookup(get_pair(first, second, key, snapshot))
@@ -149,13 +143,7 @@ fn plain_moved(at: BavoCursor, a: Moved) -> BavoMoved
 }
 
 // To the least key with a row. Refusals 1, 10, 3, 9.
-#[unsafe(no_mangle)]
-pub extern "C" fn bavo_first<'a>(
-    first: &'a [u8],
-    second: &'a [u8],
-    snapshot: u64,
-    at: BavoCursor,
-) -> BavoMoved
+pub fn bavo_first<'a>(first: &'a [u8], second: &'a [u8], snapshot: u64, at: BavoCursor) -> BavoMoved
     ensures { Plainly (plain_moved at) (λ a. Moves rule.first first.now second.now snapshot (cursor_of at) a) result }
 {
     plain_moved(
@@ -165,8 +153,7 @@ pub extern "C" fn bavo_first<'a>(
 }
 
 // To the least key with a row, at or above the given one. Refusals 1, 10, 3, 4, 9.
-#[unsafe(no_mangle)]
-pub extern "C" fn bavo_seek<'a>(
+pub fn bavo_seek<'a>(
     first: &'a [u8],
     second: &'a [u8],
     snapshot: u64,
@@ -182,13 +169,7 @@ pub extern "C" fn bavo_seek<'a>(
 }
 
 // To the least key with a row above the cursor's. Refusals 1, 10, 3, 9.
-#[unsafe(no_mangle)]
-pub extern "C" fn bavo_next<'a>(
-    first: &'a [u8],
-    second: &'a [u8],
-    snapshot: u64,
-    at: BavoCursor,
-) -> BavoMoved
+pub fn bavo_next<'a>(first: &'a [u8], second: &'a [u8], snapshot: u64, at: BavoCursor) -> BavoMoved
     ensures { Plainly (plain_moved at) (λ a. Moves rule.next first.now second.now snapshot (cursor_of at) a) result }
 {
     plain_moved(
@@ -198,13 +179,7 @@ pub extern "C" fn bavo_next<'a>(
 }
 
 // To the greatest key with a row below the cursor's. Refusals 1, 10, 3, 9.
-#[unsafe(no_mangle)]
-pub extern "C" fn bavo_prev<'a>(
-    first: &'a [u8],
-    second: &'a [u8],
-    snapshot: u64,
-    at: BavoCursor,
-) -> BavoMoved
+pub fn bavo_prev<'a>(first: &'a [u8], second: &'a [u8], snapshot: u64, at: BavoCursor) -> BavoMoved
     ensures { Plainly (plain_moved at) (λ a. Moves rule.previous first.now second.now snapshot (cursor_of at) a) result }
 {
     plain_moved(

@@ -72,77 +72,63 @@ fn plain_entry_moved(at: BavoEntryCursor, a: EntryMoved) -> BavoEntryMoved
 }
 
 // To the first entry. Refusals 1, 10, 9.
-#[unsafe(no_mangle)]
-pub extern "C" fn bavo_entry_first(image: &[u8], at: BavoEntryCursor) -> BavoEntryMoved
+pub fn bavo_entry_first(image: &[u8], at: BavoEntryCursor) -> BavoEntryMoved
     ensures { Plainly (plain_entry_moved at) (λ a. MovesEntry image.now first (entry_cursor_of at) a) result }
 {
     plain_entry_moved(at, entry_first(image, entry_cursor_of(at)))
 }
 
 // To the first entry at or after a key and a number. Refusals 1, 10, 3, 4, 9.
-#[unsafe(no_mangle)]
-pub extern "C" fn bavo_entry_seek(
-    image: &[u8],
-    at: BavoEntryCursor,
-    key: &[u8],
-    number: u64,
-) -> BavoEntryMoved
+pub fn bavo_entry_seek(image: &[u8], at: BavoEntryCursor, key: &[u8], number: u64) -> BavoEntryMoved
     ensures { Plainly (plain_entry_moved at) (λ a. MovesEntry image.now (seek key.now number) (entry_cursor_of at) a) result }
 {
     plain_entry_moved(at, entry_seek(image, entry_cursor_of(at), key, number))
 }
 
 // To the next entry. Refusals 1, 10, 9.
-#[unsafe(no_mangle)]
-pub extern "C" fn bavo_entry_next(image: &[u8], at: BavoEntryCursor) -> BavoEntryMoved
+pub fn bavo_entry_next(image: &[u8], at: BavoEntryCursor) -> BavoEntryMoved
     ensures { Plainly (plain_entry_moved at) (λ a. MovesEntry image.now next (entry_cursor_of at) a) result }
 {
     plain_entry_moved(at, entry_next(image, entry_cursor_of(at)))
 }
 
 // To the entry before. Refusals 1, 10, 9.
-#[unsafe(no_mangle)]
-pub extern "C" fn bavo_entry_prev(image: &[u8], at: BavoEntryCursor) -> BavoEntryMoved
+pub fn bavo_entry_prev(image: &[u8], at: BavoEntryCursor) -> BavoEntryMoved
     ensures { Plainly (plain_entry_moved at) (λ a. MovesEntry image.now previous (entry_cursor_of at) a) result }
 {
     plain_entry_moved(at, entry_prev(image, entry_cursor_of(at)))
 }
 
 // The key at a cursor. Refusals 1, 10, 9.
-#[unsafe(no_mangle)]
-pub extern "C" fn bavo_entry_key(image: &[u8], at: BavoEntryCursor) -> BavoView
+pub fn bavo_entry_key(image: &[u8], at: BavoEntryCursor) -> BavoView
     ensures { Plainly plain_view (λ a. Spans image.now (key_view image.now (cursor_is (entry_cursor_of at))) a) result }
 {
     plain_view(entry_key_span(image, entry_cursor_of(at)))
 }
 
 // The value at a cursor; a deletion's is empty. Refusals 1, 10, 9.
-#[unsafe(no_mangle)]
-pub extern "C" fn bavo_entry_value(image: &[u8], at: BavoEntryCursor) -> BavoView
+pub fn bavo_entry_value(image: &[u8], at: BavoEntryCursor) -> BavoView
     ensures { Plainly plain_view (λ a. Spans image.now (value_view image.now (cursor_is (entry_cursor_of at))) a) result }
 {
     plain_view(entry_value_span(image, entry_cursor_of(at)))
 }
 
 // The number at a cursor; nowhere, and where it is refused, 0.
-#[unsafe(no_mangle)]
-pub extern "C" fn bavo_entry_number(image: &[u8], at: BavoEntryCursor) -> u64
+pub fn bavo_entry_number(image: &[u8], at: BavoEntryCursor) -> u64
     ensures { result ≡ shown_number (number_view image.now (cursor_is (entry_cursor_of at))) }
 {
     entry_number(image, entry_cursor_of(at))
 }
 
 // The type at a cursor; nowhere, and where it is refused, 0.
-#[unsafe(no_mangle)]
-pub extern "C" fn bavo_entry_kind(image: &[u8], at: BavoEntryCursor) -> u8
+pub fn bavo_entry_kind(image: &[u8], at: BavoEntryCursor) -> u8
     ensures { result ≡ shown_number (kind_view image.now (cursor_is (entry_cursor_of at))) }
 {
     entry_kind(image, entry_cursor_of(at))
 }
 
 // The companion of the four views.
-#[unsafe(no_mangle)]
-pub extern "C" fn bavo_entry_refusal(image: &[u8], at: BavoEntryCursor) -> u32
+pub fn bavo_entry_refusal(image: &[u8], at: BavoEntryCursor) -> u32
     ensures { result ≡ view_refusal image.now (cursor_is (entry_cursor_of at)) }
 {
     entry_refusal(image, entry_cursor_of(at))

@@ -1,5 +1,5 @@
-// The library for C: the calls of include/bavolinesk.h. Each is one call of a lower crate whose answer is made a plain struct. None
-// asks anything of its caller but what a pointer and a length of C are, and each fixes its answer.
+// The calls of include/bavolinesk.h. Each is one call of a lower crate whose answer is made a plain struct. None asks anything of its
+// caller but what a pointer and a length of C are, and each fixes its answer. The crate capi_c exports them.
 #![tactic(auto)]
 
 pub mod memtable; // memtable.rt: the calls on one table

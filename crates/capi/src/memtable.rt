@@ -25,8 +25,7 @@ fn plain_freshened(a: Freshened) -> u32
 }
 
 // Makes an empty table of the image. Refusal 1.
-#[unsafe(no_mangle)]
-pub extern "C" fn bavo_fresh(image: &mut [u8]) -> u32
+pub fn bavo_fresh(image: &mut [u8]) -> u32
     ensures { Plainly plain_freshened (λ a. Freshens image.old a image.new) result }
 {
     plain_freshened(fresh(image))
@@ -54,8 +53,7 @@ fn plain_added(a: Added) -> BavoAdded
 }
 
 // Adds an entry in a node of the given height. Refusals 1, 2, 3, 4, 5, 6, then 9 or 8, then 7.
-#[unsafe(no_mangle)]
-pub extern "C" fn bavo_add(
+pub fn bavo_add(
     image: &mut [u8],
     key: &[u8],
     number: u64,
@@ -69,8 +67,7 @@ pub extern "C" fn bavo_add(
 }
 
 // Whether the image is sound.
-#[unsafe(no_mangle)]
-pub extern "C" fn bavo_check(image: &[u8]) -> bool
+pub fn bavo_check(image: &[u8]) -> bool
     ensures { Checked image.now result }
 {
     check(image)
@@ -109,8 +106,7 @@ fn plain_presence(a: Presence) -> BavoPresence
 }
 
 // Whether an entry of this key, number and type is held. Refusals 1, 2, 3, 4, 9.
-#[unsafe(no_mangle)]
-pub extern "C" fn bavo_contains(image: &[u8], key: &[u8], number: u64, kind: u8) -> BavoPresence
+pub fn bavo_contains(image: &[u8], key: &[u8], number: u64, kind: u8) -> BavoPresence
     ensures { Plainly plain_presence (λ a. Contains image.now key.now number kind a) result }
 {
     plain_presence(contains(image, key, number, kind))
@@ -159,8 +155,7 @@ fn plain_lookup(a: Lookup) -> BavoLookup
 }
 
 // The newest entry of a key up to a snapshot. Refusals 1, 3, 4, 9.
-#[unsafe(no_mangle)]
-pub extern "C" fn bavo_get(image: &[u8], key: &[u8], snapshot: u64) -> BavoLookup
+pub fn bavo_get(image: &[u8], key: &[u8], snapshot: u64) -> BavoLookup
     ensures { Plainly plain_lookup (λ a. Gets image.now key.now snapshot a) result }
 {
     plain_lookup(get(image, key, snapshot))
@@ -194,16 +189,14 @@ pub(crate) fn plain_view(a: SpanOn) -> BavoView
 }
 
 // The value of a found node. Refusals 1, 10, 9.
-#[unsafe(no_mangle)]
-pub extern "C" fn bavo_value(image: &[u8], node: usize) -> BavoView
+pub fn bavo_value(image: &[u8], node: usize) -> BavoView
     ensures { Plainly plain_view (λ a. Spans image.now (value_view image.now (on node)) a) result }
 {
     plain_view(value_span(image, node))
 }
 
 // Its companion.
-#[unsafe(no_mangle)]
-pub extern "C" fn bavo_value_refusal(image: &[u8], node: usize) -> u32
+pub fn bavo_value_refusal(image: &[u8], node: usize) -> u32
     ensures { result ≡ view_refusal image.now (on node) }
 {
     value_refusal(image, node)
@@ -211,8 +204,7 @@ pub extern "C" fn bavo_value_refusal(image: &[u8], node: usize) -> u32
 
 // The value of a key at a snapshot, in one call. A value, an empty one too, stands behind the header; where the key has no row it
 // is the empty part at 0. Refusals 1, 3, 4, 9.
-#[unsafe(no_mangle)]
-pub extern "C" fn bavo_get_value(image: &[u8], key: &[u8], snapshot: u64) -> BavoView
+pub fn bavo_get_value(image: &[u8], key: &[u8], snapshot: u64) -> BavoView
     ensures { Plainly plain_view (λ a. ShowsRow image.now key.now snapshot a) result }
 {
     plain_view(get_span(image, key, snapshot))

@@ -47,28 +47,21 @@ fn plain_row_view(a: RowSpan) -> BavoRowView
 }
 
 // The key at a cursor. Refusals 1 (first table, then second), 10, 9.
-#[unsafe(no_mangle)]
-pub extern "C" fn bavo_row_key<'a>(first: &'a [u8], second: &'a [u8], at: BavoCursor) -> BavoRowView
+pub fn bavo_row_key<'a>(first: &'a [u8], second: &'a [u8], at: BavoCursor) -> BavoRowView
     ensures { Plainly plain_row_view (λ a. RowSpans key_view first.now second.now (cursor_of at) a) result }
 {
     plain_row_view(row_key_span(first, second, cursor_of(at)))
 }
 
 // The value at a cursor; a deletion's is empty. Refusals 1 (first table, then second), 10, 9.
-#[unsafe(no_mangle)]
-pub extern "C" fn bavo_row_value<'a>(
-    first: &'a [u8],
-    second: &'a [u8],
-    at: BavoCursor,
-) -> BavoRowView
+pub fn bavo_row_value<'a>(first: &'a [u8], second: &'a [u8], at: BavoCursor) -> BavoRowView
     ensures { Plainly plain_row_view (λ a. RowSpans value_view first.now second.now (cursor_of at) a) result }
 {
     plain_row_view(row_value_span(first, second, cursor_of(at)))
 }
 
 // The companion of the two.
-#[unsafe(no_mangle)]
-pub extern "C" fn bavo_row_refusal<'a>(first: &'a [u8], second: &'a [u8], at: BavoCursor) -> u32
+pub fn bavo_row_refusal<'a>(first: &'a [u8], second: &'a [u8], at: BavoCursor) -> u32
     ensures { Refuses first.now second.now (cursor_of at) result }
 {
     row_refusal(first, second, cursor_of(at))

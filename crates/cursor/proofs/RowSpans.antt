@@ -6,7 +6,6 @@ use mathlib.Core.Logic.{⊎_elim}
 use mathlib.Core.List.{List, [], ◌∷◌}
 use mathlib.Core.Bool.{Bool, true, false, not}
 use lib.ListN.{length, take, drop}
-use types.Run.{OneOf}
 use denote.Enum.Declared.{tag_of}
 use Rattle.cursor.specs.contracts.row_views.RowSpan.{the_type}
 use borrow.Author.Tests.{not-true, not-false}
@@ -86,9 +85,9 @@ bytes_shown v f g cursor.Nowhere = none_by f g (both (header_holds f) (header_ho
 bytes_shown v f g (cursor.On p) = bytes_by v f g p (both (header_holds f) (header_holds g))
 
 -- what a `let .. else` that asks for a part knows in its else
-pub no_part : (f g : List ℕ) (r : RowSpan) → OneOf (0 ∷ 2 ∷ []) (tag_of the_type r) → [] ≡ part_bytes f g (row_span_as r)
+pub no_part : (f g : List ℕ) (r : RowSpan) → ((side : Side) (o n : ℕ) → r ≡ In side o n → ⊥) → [] ≡ part_bytes f g (row_span_as r)
 no_part f g Nowhere k = refl
-no_part f g (In side o n) k = absurd (⊎_elim (λ e. omega arith) (λ e. omega arith) k)
+no_part f g (In side o n) k = absurd (k side o n refl)
 no_part f g (Refused q) k = refl
 
 -- a span that names a part, with the image xs that it names

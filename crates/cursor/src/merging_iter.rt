@@ -14,7 +14,7 @@ use table::questions::{Cut, Hit, NewestAt, before, near, newest};
 use table::refusals::Refusal;
 
 // A key that comes next: a place that has it, and which of the tables it is the nearest key of.
-#[derive(Drop)]
+#[derive(Clone, Copy)]
 pub(crate) struct Meeting {
     pub place: Place,
     pub first: bool,

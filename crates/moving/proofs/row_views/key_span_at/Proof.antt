@@ -7,19 +7,15 @@ use Rattle.moving.proofs.entry_views.entry_key_span.Reads as entry-key-span-read
 use Rattle.moving.proofs.places.image_of.Reads as image-of-reads
 use Rattle.moving.proofs.row_views.span_in.Reads as span-in-reads
 
--- src/row_views.rt:48:9
 image-of-requires : tie.Need-image-of-requires
 image-of-requires c κs = search rules
 
--- src/row_views.rt:49:19
 entry-key-span-requires : tie.Need-entry-key-span-requires
 entry-key-span-requires c κs = search rules
 
--- src/row_views.rt:49:5
 span-in-requires : tie.Need-span-in-requires
 span-in-requires c κs = search rules
 
--- src/row_views.rt:43:1
 returns : tie.Need-returns
 returns c = c.span-in.ensures _ _ (rw c.before.before.image-of.ensures at c.before.entry-key-span.ensures)
 

@@ -6,39 +6,30 @@ use Rattle.moving.proofs.row_views.part_of.Reads as reads
 use Rattle.moving.proofs.row_views.part_of.Lts as lts
 use Rattle.moving.proofs.places.image_of.Reads as image-of-reads
 
--- src/row_views.rt:92:23
 enum-known-span : tie.Need-enum-known-span
 enum-known-span c = search rules
 
--- src/row_views.rt:93:9
 slice-aggregate-result : tie.Need-slice-aggregate-result
 slice-aggregate-result c = search rules
 
--- src/row_views.rt:93:9
 returns : tie.Need-returns
 returns c = search rules
 
--- src/row_views.rt:95:9
 image-of-requires : tie.Need-image-of-requires
 image-of-requires c κs = search rules
 
--- src/row_views.rt:96:15
 add-end : tie.Need-overflow-add-end
 add-end c = let l = rw c.before.before.span.given.1 at c.before.before.before.before.before.before.requires in omega (arith, l, c.image-of.ensures)
 
--- src/row_views.rt:97:5
 sub-result : tie.Need-overflow-sub-result
 sub-result c = search rules
 
--- src/row_views.rt:97:5
 part-result-start : tie.Need-slice-bounds-result-start
 part-result-start c = search rules
 
--- src/row_views.rt:97:5
 part-result-end : tie.Need-slice-bounds-result-end
 part-result-end c = let l = rw c.before.before.span.given.1 at c.before.before.before.before.before.before.requires in omega (arith, l, c.image-of.ensures)
 
--- src/row_views.rt:89:1
 returns-2 : tie.Need-returns-2
 returns-2 c = search rules
 

@@ -7,19 +7,15 @@ use Rattle.moving.proofs.entry_views.entry_value_span.Reads as entry-value-span-
 use Rattle.moving.proofs.places.image_of.Reads as image-of-reads
 use Rattle.moving.proofs.row_views.span_in.Reads as span-in-reads
 
--- src/row_views.rt:58:9
 image-of-requires : tie.Need-image-of-requires
 image-of-requires c κs = search rules
 
--- src/row_views.rt:59:19
 entry-value-span-requires : tie.Need-entry-value-span-requires
 entry-value-span-requires c κs = search rules
 
--- src/row_views.rt:59:5
 span-in-requires : tie.Need-span-in-requires
 span-in-requires c κs = search rules
 
--- src/row_views.rt:53:1
 returns : tie.Need-returns
 returns c = c.span-in.ensures _ _ (rw c.before.before.image-of.ensures at c.before.entry-value-span.ensures)
 

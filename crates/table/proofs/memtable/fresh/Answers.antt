@@ -1,4 +1,3 @@
--- src/memtable.rt:40:9
 use Rattle.table.proofs.MemtableLaws.{fresh_short, fresh_long, fresh_done}
 use Rattle.table.proofs.memtable.fresh.Goals as goal
 

@@ -1,4 +1,3 @@
--- src/questions.rt:65:21
 use Rattle.table.proofs.questions.before.Goals as goal
 
 pub returns-in-All : goal.returns-in-All

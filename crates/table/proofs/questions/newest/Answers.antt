@@ -3,7 +3,7 @@ use Rattle.table.proofs.questions.newest.Goals as goal
 
 pub returns-in_default : goal.returns-in_default
 returns-in_default c =
-    tells_newest _ _ _ _ (λ i. (c.shared_slice_known-1.given i).fits) (newest_header _ _ _ (rw c.in_default.is at c.read_frame.ensures))
+    tells_newest _ _ _ _ (λ i. (c.type_inv.s i).fits) (newest_header _ _ _ (rw c.in_default.is at c.read_frame.ensures))
 
 pub first_not_passed-stands-requires : goal.first_not_passed-stands-requires
 first_not_passed-stands-requires c = rw c.in-Good.is at c.read_frame.ensures
@@ -11,7 +11,7 @@ first_not_passed-stands-requires c = rw c.in-Good.is at c.read_frame.ensures
 pub returns-in_default-stands : goal.returns-in_default-stands
 returns-in_default-stands c =
     let stands = rw c.in_default-stands.is at c.first_not_passed-stands.ensures in
-    tells_newest _ _ _ _ (λ i. (c.shared_slice_known-1.given i).fits) (newest_damaged _ (rw c.in-Good.is at c.read_frame.ensures) _ _ stands.exact)
+    tells_newest _ _ _ _ (λ i. (c.type_inv.s i).fits) (newest_damaged _ (rw c.in-Good.is at c.read_frame.ensures) _ _ stands.exact)
 
 pub said_at-requires : goal.said_at-requires
 said_at-requires c = (rw c.in-Node.is at c.first_not_passed-stands.ensures).inside
@@ -19,4 +19,4 @@ said_at-requires c = (rw c.in-Node.is at c.first_not_passed-stands.ensures).insi
 pub returns : goal.returns
 returns c =
     let stands = rw c.in-Node.is at c.first_not_passed-stands.ensures in
-    tells_newest _ _ _ _ (λ i. (c.shared_slice_known-1.given i).fits) (newest_said _ (rw c.in-Good.is at c.read_frame.ensures) _ _ stands.exact c.said_at.ensures c.with_node.ensures)
+    tells_newest _ _ _ _ (λ i. (c.type_inv.s i).fits) (newest_said _ (rw c.in-Good.is at c.read_frame.ensures) _ _ stands.exact c.said_at.ensures c.with_node.ensures)
