@@ -10,7 +10,7 @@ use crate::refusals::Refusal;
 use crate::walk::{Found, walk};
 
 // What a move answers: where it leads, or why it was refused and the cursor that it was handed.
-#[derive(Drop)]
+#[derive(Clone, Copy)]
 pub enum Moved {
     To(Cursor),
     Refused(Refusal, Cursor),

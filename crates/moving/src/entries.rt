@@ -35,7 +35,7 @@ pub(crate) fn put_entry(s: &mut [u8], at: usize, key: &[u8], number: u64, kind: 
 }
 
 // Where the key of an entry stands, its tag, and where its value's length begins.
-#[derive(Drop)]
+#[derive(Clone, Copy)]
 pub(crate) struct Keyed {
     pub key_at: usize,
     pub key_len: usize,

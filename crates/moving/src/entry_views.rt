@@ -50,7 +50,7 @@ pub(crate) fn parts_on(s: &[u8], c: EntryCursor) -> PartsOn
 }
 
 // A part of the image, or why it is refused. Nowhere, and of a deletion, it is the empty part at 0.
-#[derive(Drop)]
+#[derive(Clone, Copy)]
 pub enum SpanOn {
     At { at: usize, len: usize },
     Refused(Refusal),

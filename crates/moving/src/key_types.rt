@@ -6,7 +6,7 @@ ghost use Rattle.moving.specs.Entries.{len_size, LenFits};
 use crate::words::{get_u64, put_word, wide};
 
 // The number of an entry, or of a snapshot.
-#[derive(Drop)]
+#[derive(Clone, Copy)]
 pub struct Number {
     pub is: u64,
 }
@@ -21,7 +21,7 @@ impl Number {
 }
 
 // A number with the type of its entry: the number shifted left by eight bits, the type in the low byte.
-#[derive(Drop)]
+#[derive(Clone, Copy)]
 pub struct Tag {
     pub word: u64,
 }

@@ -16,7 +16,7 @@ use crate::refusals::Refusal;
 use crate::skipmap::OnEqual;
 
 // What making a table fresh answers.
-#[derive(Drop)]
+#[derive(Clone, Copy)]
 pub enum Freshened {
     Done,
     Refused(Refusal),
@@ -37,7 +37,7 @@ pub fn fresh(s: &mut [u8]) -> Freshened
 }
 
 // What an addition answers: the new node's number, or why it was refused.
-#[derive(Drop)]
+#[derive(Clone, Copy)]
 pub enum Added {
     Node(usize),
     Refused(Refusal),
@@ -83,7 +83,7 @@ pub fn add(s: &mut [u8], key: &[u8], number: u64, kind: u8, value: &[u8], height
 
 // What a lookup answers, with the looks that it took: the node of the found value, that the newest entry is a deletion, or that
 // there is none.
-#[derive(Drop)]
+#[derive(Clone, Copy)]
 pub enum Lookup {
     Found { node: usize, looks: usize },
     Deleted { looks: usize },

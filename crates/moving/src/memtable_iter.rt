@@ -16,21 +16,21 @@ use crate::skipmap::OnEqual;
 use crate::words::get_word;
 
 // Nowhere, or on a node.
-#[derive(Drop)]
+#[derive(Clone, Copy)]
 pub enum EntryCursor {
     Nowhere,
     On(usize),
 }
 
 // Where a move leads; a refused move hands back the cursor that it was handed.
-#[derive(Drop)]
+#[derive(Clone, Copy)]
 pub enum EntryMoved {
     To(EntryCursor),
     Refused(Refusal, EntryCursor),
 }
 
 // Whether a cursor may be used on a table, with the frame that was read, or why not.
-#[derive(Drop)]
+#[derive(Clone, Copy)]
 pub enum CursorTest {
     Passed(Frame),
     Failed(Refusal),

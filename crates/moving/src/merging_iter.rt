@@ -11,7 +11,7 @@ use crate::questions::{Cut, Hit, NewestAt, before, near, newest};
 use crate::refusals::Refusal;
 
 // A key that comes next: a place that has it, and which of the tables it is the nearest key of.
-#[derive(Drop)]
+#[derive(Clone, Copy)]
 pub(crate) struct Meeting {
     pub place: Place,
     pub first: bool,
@@ -169,7 +169,7 @@ pub(crate) fn newest_entry<'a>(
 }
 
 // What a lookup in a pair answers, with the looks that it took over the tables asked.
-#[derive(Drop)]
+#[derive(Clone, Copy)]
 pub enum PairLookup {
     Found { place: Place, looks: usize },
     Deleted { looks: usize },

@@ -35,7 +35,7 @@ pub(crate) const HEAD_LINKS: usize = 16;
 pub(crate) const LINKS_AT: usize = 8;
 
 // Count and first free byte of an image whose header holds, as they were read once.
-#[derive(Drop)]
+#[derive(Clone, Copy)]
 pub struct Frame {
     pub count: usize,
     pub free: usize,

@@ -8,21 +8,21 @@ use crate::memtable_iter::EntryCursor;
 use crate::nodes::header_holds;
 
 // Which of the two tables.
-#[derive(Drop)]
+#[derive(Clone, Copy)]
 pub enum Side {
     First,
     Second,
 }
 
 // A node of one of them.
-#[derive(Drop)]
+#[derive(Clone, Copy)]
 pub struct Place {
     pub table: Side,
     pub node: usize,
 }
 
 // Nowhere, or on a place.
-#[derive(Drop)]
+#[derive(Clone, Copy)]
 pub enum Cursor {
     Nowhere,
     On(Place),

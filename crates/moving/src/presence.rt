@@ -14,7 +14,7 @@ use crate::refusals::Refusal;
 use crate::skipmap::OnEqual;
 
 // Whether an entry is held, with the looks that it took to tell.
-#[derive(Drop)]
+#[derive(Clone, Copy)]
 pub enum Presence {
     Held { looks: usize },
     NotHeld { looks: usize },

@@ -14,7 +14,7 @@ use crate::nodes::{Frame, FrameRead, read_frame};
 use crate::skipmap::OnEqual;
 
 // A cut at a key: upward every key, the keys from it on or those above it; downward the keys below it.
-#[derive(Drop)]
+#[derive(Clone, Copy)]
 pub enum Cut {
     All,
     From,
@@ -58,7 +58,7 @@ pub fn before(cut: Cut, a: &[u8], b: &[u8]) -> bool {
 }
 
 // The node that answers, or that there is none.
-#[derive(Drop)]
+#[derive(Clone, Copy)]
 pub enum Hit {
     At(usize),
     Nothing,
@@ -98,7 +98,7 @@ pub fn near(s: &[u8], cut: Cut, key: &[u8]) -> Hit {
 }
 
 // The newest entry of a key: the node of a value, the node of a deletion, or that there is none.
-#[derive(Drop)]
+#[derive(Clone, Copy)]
 pub enum NewestAt {
     Value(usize),
     Deletion(usize),

@@ -1,7 +1,6 @@
 // Made by tools/moving from crates/table/src/refusals.rt: its bodies, other contracts.
 // Why a call is refused.
-
-#[derive(Drop)]
+#[derive(Clone, Copy)]
 pub enum Refusal {
     // Slice length or header field out of its limits.
     BadImage,

@@ -12,7 +12,7 @@ use crate::places::{Cursor, Place, Side, headers_hold, image_of, place_refusal};
 use crate::refusals::Refusal;
 
 // Nowhere, a part of one of the two images, or why it is refused. Of a deletion it is the empty part at 0 of its image.
-#[derive(Drop)]
+#[derive(Clone, Copy)]
 pub enum RowSpan {
     Nowhere,
     In { table: Side, at: usize, len: usize },

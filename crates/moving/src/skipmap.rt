@@ -12,7 +12,7 @@ use crate::nodes::{Frame, HEAD_LINKS, LEVELS, LINKS_AT, LeadRead, lead_of};
 use crate::words::get_word;
 
 // What a search does at a node equal to its probe.
-#[derive(Drop)]
+#[derive(Clone, Copy)]
 pub(crate) enum OnEqual {
     Stop,
     GoDown,

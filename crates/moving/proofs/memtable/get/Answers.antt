@@ -1,0 +1,11 @@
+use native.Mathlib.Omega.{arith}
+use Rattle.moving.proofs.memtable.get.Goals as goal
+
+pub first_not_passed-stands-requires : goal.first_not_passed-stands-requires
+first_not_passed-stands-requires c = rw c.in-Good.is at c.read_frame.ensures
+
+pub said_at-requires : goal.said_at-requires
+said_at-requires c = (rw c.in-Node.is at c.first_not_passed-stands.ensures).0
+
+pub looked-requires : goal.looked-requires
+looked-requires c = let at = rw c.in-Node.is at c.first_not_passed-stands.ensures in omega (arith, at.1, at.0.within.few)

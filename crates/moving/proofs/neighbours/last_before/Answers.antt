@@ -1,0 +1,12 @@
+use native.Mathlib.Omega.{arith}
+use Rattle.moving.proofs.neighbours.last_before.Goals as goal
+
+pub returns-in-Hit : goal.returns-in-Hit
+returns-in-Hit c =
+    let at = rw c.in-Hit.is at c.search-found.ensures.spot in
+    (record { within = c.requires; most = omega arith }, at.2, tt)
+
+pub returns-in-Ends : goal.returns-in-Ends
+returns-in-Ends c =
+    let at = rw c.in-Ends.is at c.search-found.ensures.spot in
+    (record { within = c.requires; most = at.0 }, at.2, tt)
