@@ -3,8 +3,7 @@
 ghost use Rattle.std.specs.Prelude.{◌≤◌, ◌<◌};
 
 use crate::put;
-use crate::text::{before, begins, byte, rest, skip, word};
-use check::same;
+use crate::text::{before, begins, byte, rest, same, skip, word};
 
 // A number, if a text is one.
 #[derive(Drop)]

@@ -37,8 +37,17 @@ pub fn fill(out: &mut [u8; 4200], n: usize, b: u8) {
 // A number.
 pub fn number(out: &mut [u8; 4200], at: usize, n: u64) -> usize {
     let mut digits = [0u8; 20];
-    let k = io::decimal(n, &mut digits);
-    text(out, at, &digits[..k])
+    let mut first = 20;
+    let mut left = n;
+    while first > 0 {
+        first -= 1;
+        digits[first] = b'0' + (left % 10) as u8;
+        left /= 10;
+        if left == 0 {
+            break;
+        }
+    }
+    text(out, at, &digits[first..])
 }
 
 // A text and a number behind it.
@@ -47,11 +56,15 @@ pub fn counted(out: &mut [u8; 4200], at: usize, s: &[u8], n: usize) -> usize {
     number(out, end, n as u64)
 }
 
+// A digit in hexadecimal.
+fn hex_digit(out: &mut [u8; 4200], at: usize, n: u8) -> usize {
+    byte(out, at, byte_of(b"0123456789abcdef", n as usize))
+}
+
 // The two digits of a byte.
 fn hex_byte(out: &mut [u8; 4200], at: usize, b: u8) -> usize {
-    let mut digits = [0u8; 16];
-    let k = io::hex(b as u64, 2, &mut digits);
-    text(out, at, &digits[..k])
+    let end = hex_digit(out, at, b / 16);
+    hex_digit(out, end, b % 16)
 }
 
 // How many blanks stand before the byte with this number, in groups.

@@ -1,5 +1,7 @@
 // How many answers there were, and how many were as expected: two counts for each source, in the order of their names.
 use crate::text::{index, word};
+use std::io;
+use std::io::Write;
 
 // How many sources there are: by number document 01, the set-up of recorded cases, the model, the crate and LevelDB.
 pub const SOURCES: usize = 5;
@@ -33,25 +35,21 @@ pub fn note(counts: &mut [u64; 11], by: usize, right: bool) {
 }
 
 // Writes how many of how many answers of a source were as expected.
-fn line(names: &[u8], k: usize, asked: u64, right: u64) {
-    io::write_all(1, word(names, k));
-    io::write_all(1, b": ");
-    io::print_decimal(1, right);
-    io::write_all(1, b" of ");
-    io::print_decimal(1, asked);
-    io::write_all(1, b" answers\n");
+fn line(to: &mut impl Write, names: &[u8], k: usize, asked: u64, right: u64) -> io::Result<()> {
+    to.write_all(word(names, k))?;
+    write!(to, ": {right} of {asked} answers\n")
 }
 
 // Writes the counts, and last whether all is as expected.
-pub fn show(counts: &[u64; 11]) {
+pub fn show(to: &mut impl Write, counts: &[u64; 11]) -> io::Result<()> {
     let names = b"document set-up model crate leveldb";
-    line(names, 0, counts[0], counts[1]);
-    line(names, 1, counts[2], counts[3]);
-    line(names, 2, counts[4], counts[5]);
-    line(names, 3, counts[6], counts[7]);
-    line(names, 4, counts[8], counts[9]);
+    line(to, names, 0, counts[0], counts[1])?;
+    line(to, names, 1, counts[2], counts[3])?;
+    line(to, names, 2, counts[4], counts[5])?;
+    line(to, names, 3, counts[6], counts[7])?;
+    line(to, names, 4, counts[8], counts[9])?;
     if counts[10] > 0 {
-        io::write_all(1, b"NOT ");
+        to.write_all(b"NOT ")?;
     }
-    io::write_all(1, b"all as expected\n");
+    to.write_all(b"all as expected\n")
 }

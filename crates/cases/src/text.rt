@@ -1,9 +1,6 @@
 // Parts and words of a text. Every function takes any bytes and any numbers.
 ghost use Rattle.std.specs.Prelude.{◌≤◌, length};
 
-use bytes::scan::find;
-use check::same;
-
 // A part of some bytes; empty where they have no such part.
 pub fn part(s: &[u8], from: usize, len: usize) -> &[u8] {
     if from > s.len() {
@@ -34,15 +31,34 @@ pub fn byte(s: &[u8], i: usize) -> u8 {
     if i < s.len() { s[i] } else { 0 }
 }
 
+// Whether two texts have the same bytes.
+pub fn same(a: &[u8], b: &[u8]) -> bool {
+    a == b
+}
+
+// Where the first byte that is the mark stands, or the end.
+pub fn find(s: &[u8], mark: u8) -> usize
+    ensures { result ≤ length s.now }
+{
+    let mut i = 0;
+    while i < s.len() {
+        if s[i] == mark {
+            return i;
+        }
+        i += 1;
+    }
+    i
+}
+
 // Up to the first byte that is the mark, or all.
 pub fn before(s: &[u8], mark: u8) -> &[u8] {
-    let to = find(s, 0, s.len(), mark);
+    let to = find(s, mark);
     part(s, 0, to)
 }
 
 // Behind the first byte that is the mark; empty where there is none.
 pub fn after(s: &[u8], mark: u8) -> &[u8] {
-    let to = find(s, 0, s.len(), mark);
+    let to = find(s, mark);
     rest(rest(s, to), 1)
 }
 

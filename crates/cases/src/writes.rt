@@ -1,10 +1,9 @@
 // What writes to a table's memory: the two calls that do, and the lines that lend a memory or overwrite bytes of it.
 use crate::given::{hexes, number, two};
 use crate::state::{QUIET, UNCLEAR};
-use crate::text::{byte, front, part, rest, word};
+use crate::text::{byte, front, part, rest, same, word};
 use crate::{entry, memory, ops, put, show, state};
 use capi::memtable::{BavoAdded, bavo_add, bavo_fresh};
-use check::same;
 
 // More than a refusal's number: the line is none.
 const NO_LINE: u32 = 99;

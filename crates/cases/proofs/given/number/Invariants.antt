@@ -1,0 +1,10 @@
+-- `given::number`: one byte a turn.
+use Prim.Native.Nat.{◌≤◌, ◌-◌}
+use lib.ListN.{length}
+use Rattle.cases.proofs.given.number.Given as goal
+
+abbrev pub invariant-loop-i : goal.invariant-loop-i
+invariant-loop-i l = l.i ≤ length l.s
+
+abbrev pub decreases-loop-i : goal.decreases-loop-i
+decreases-loop-i l = length l.s - l.i
