@@ -1,4 +1,4 @@
-// Finds libcapi.a: in the folder that BAVOLINESK_LIB_DIR names, or in ../target/staticlib, where `rt staticlib capi` writes it.
+// Finds libcapi.a: in the folder that BAVOLINESK_LIB_DIR names, or in ../target/staticlib, where `tools/staticlib` writes it.
 use std::env;
 use std::path::PathBuf;
 
@@ -13,7 +13,7 @@ fn main() {
     if !archive.is_file() {
         eprintln!("There is no {}.", archive.display());
         eprintln!(
-            "Make it with `rt staticlib capi` in the repository's root, or name its folder in BAVOLINESK_LIB_DIR."
+            "Make it with `tools/staticlib` in the repository's root, or name its folder in BAVOLINESK_LIB_DIR."
         );
         std::process::exit(1);
     }

@@ -2,7 +2,7 @@
         each refusal in its
  * order, and that a refusal keeps every lent byte. Prints how many comparisons were made and which failed; returns 1 if one did.
  *
- *     rt staticlib capi
+ *     tools/staticlib
  *     gcc -std=c99 -Wall -Wextra -Werror -Iinclude host/c/coverage.c target/staticlib/libcapi.a -o target/c-coverage
  */
 #include "bavolinesk.h"

@@ -3,7 +3,7 @@
  * link and retrains: while it is gone no pass may show its gpu, upward or downward. Then a card scribbles on the older table, and
  * still every call returns. The program prints what it does, compares each answer with what is due, and returns 1 if one is off.
  *
- *     rt staticlib capi
+ *     tools/staticlib
  *     gcc -std=c99 -Wall -Wextra -Werror -Iinclude host/c/example.c target/staticlib/libcapi.a -o target/c-example
  */
 #include "bavolinesk.h"

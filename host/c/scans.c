@@ -2,7 +2,7 @@
  * cursors, both ways, by the loops that README types. Every move must lead onward to a node that can be read, and there may be no
  * more moves than nodes. Then the named cases. Prints the counts and what failed with the damage; returns 1 if something did.
  *
- *     rt staticlib capi
+ *     tools/staticlib
  *     gcc -std=c99 -Wall -Wextra -Werror -Iinclude host/c/scans.c target/staticlib/libcapi.a -o target/c-scans
  */
 #include "bavolinesk.h"
