@@ -19,7 +19,7 @@ mod tally; // tally.rt: how many answers were as expected
 mod text; // text.rt: parts and words of a text
 mod writes; // writes.rt: what writes to a table's memory
 
-ghost use Rattle.std.specs.Prelude.{◌<◌, ◌≤◌, length, IfOk};
+ghost use Rattle.std.specs.Prelude.{◌≡◌, ◌<◌, ◌≤◌, length, IfOk};
 
 use crate::state::UNCLEAR;
 use crate::text::{arrow, begins, byte, find, front, part, rest, same};
@@ -162,7 +162,14 @@ fn run_input(from: &mut impl Read, to: &mut impl Write, space: &mut [u8]) -> io:
     Ok(())
 }
 
+// Zeros that hold any text. The promise gives the length, which lending the array as a slice asks for.
+fn zeros() -> [u8; 524288]
+    ensures { length result ≡ 524288 }
+{
+    [0; 524288]
+}
+
 fn main(rt: HostRuntime) -> io::Result<()> {
-    let mut space = Vec::from_elem(rt.alloc(), 0u8, 524288)?;
+    let mut space = zeros();
     run_input(&mut rt.reader(), &mut io::writer(&rt), &mut space)
 }
