@@ -8,7 +8,7 @@ use borrow.Author.Tests.{ne_eqb}
 use Rattle.rule.specs.Moves.{Move}
 use Rattle.image.specs.Sound.{header_holds}
 use Rattle.image.specs.Refusals.{refused, number_of, no_node}
-use Rattle.image.specs.EntryMoves.{on, EntryMove, entry_move}
+use Rattle.image.specs.EntryMoves.{EntryMove, entry_move}
 use Rattle.table.specs.Refusals.{refusal_is}
 use Rattle.table.specs.MemtableIter.{moved_as, MovesEntry as EntryMoves}
 use Rattle.cursor.specs.Places.{place}

@@ -1,5 +1,5 @@
 -- The entry cursor as plain numbers.
-use Rattle.std.specs.Prelude.{ℕ, eqb}
+use Rattle.std.specs.Prelude.{eqb}
 use Rattle.rule.specs.Lists.{cond}
 use Rattle.image.specs.Refusals.{number_of}
 use Rattle.table.specs.Refusals.{refusal_is}

@@ -1,13 +1,9 @@
 -- The ways out of the questions where a row's view stands, and that the part there is what the view shows.
 use Prim.Native.Nat.{ℕ, ◌+◌, ◌-◌, ◌≤◌}
-use native.Mathlib.Omega.{arith}
 use mathlib.Core.Path.{◌≡◌, refl, sym, ap, ◌∙◌}
-use mathlib.Core.Logic.{⊎_elim}
-use mathlib.Core.List.{List, [], ◌∷◌}
+use mathlib.Core.List.{List, []}
 use mathlib.Core.Bool.{Bool, true, false, not}
 use lib.ListN.{length, take, drop}
-use denote.Enum.Declared.{tag_of}
-use Rattle.cursor.specs.contracts.row_views.RowSpan.{the_type}
 use borrow.Author.Tests.{not-true, not-false}
 use Rattle.rule.specs.Lists.{cond, both, none}
 use Rattle.image.specs.Sound.{header_holds}

@@ -1,6 +1,5 @@
 -- What the inner functions of a move promise each other.
-use Rattle.std.specs.Prelude.{ℕ, ◌≡◌, List, [], true}
-use Rattle.rule.specs.Moves.{first}
+use Rattle.std.specs.Prelude.{ℕ, ◌≡◌, List, true}
 use Rattle.image.specs.Sound.{Sound, header_holds}
 use Rattle.image.specs.Cuts.{Cut}
 use Rattle.image.specs.Refusals.{Answer, refused, given}

@@ -17,7 +17,6 @@ use Rattle.cursor.specs.Rows.{ShowsKey, ShowsValue}
 use Rattle.cursor.specs.declared.places.Cursor.{Cursor}
 use Rattle.cursor.specs.declared.places.Cursor.TheVariants.{Nowhere, On}
 use Rattle.cursor.specs.declared.db_iter.Moved.{Moved}
-use Rattle.cursor.specs.declared.db_iter.Moved.TheVariants.{Refused}
 
 -- a pair of tables
 pub record Tables : Type 0 where

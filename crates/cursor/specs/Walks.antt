@@ -3,7 +3,7 @@ use Rattle.std.specs.Prelude.{ℕ, ◌+◌, ◌-◌, ◌≤◌, ◌≡◌, ◌�
 use Rattle.rule.specs.Lists.{cond, Maybe, none, some, is_some}
 use Rattle.rule.specs.Order.{is_less}
 use Rattle.rule.specs.Entries.{value_kind}
-use Rattle.rule.specs.Rows.{newest, row}
+use Rattle.rule.specs.Rows.{row}
 use Rattle.rule.specs.Moves.{best}
 use Rattle.rule.specs.Nearest.{Least}
 use Rattle.image.specs.Sound.{Sound}

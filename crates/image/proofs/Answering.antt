@@ -1,5 +1,5 @@
 -- Where the questions of the layer above end, on any bytes: on a node that can be read whole, with a key and a number that were asked for.
-use Prim.Native.Nat.{ℕ, zero, suc, ◌-◌, ◌≤◌}
+use Prim.Native.Nat.{ℕ, zero, suc, ◌≤◌}
 use native.Mathlib.Omega.{arith}
 use mathlib.Core.Path.{◌≡◌, refl, sym, ap, ◌∙◌}
 use mathlib.Core.Logic.{inl, inr}
@@ -7,7 +7,7 @@ use mathlib.Core.List.{List}
 use mathlib.Core.Bool.{Bool, true, false, not}
 use lib.Dec.{eqb}
 use borrow.Author.Tests.{eqb-true, eqb-false, not-false}
-use Rattle.rule.specs.Lists.{cond, some}
+use Rattle.rule.specs.Lists.{cond}
 use Rattle.rule.specs.Order.{Ord, less, equal, greater, then, compare_numbers, compare_keys, compare_entries, is_less, is_equal}
 use Rattle.rule.specs.Entries.{Entry, value_kind, deletion_kind}
 use Rattle.rule.proofs.Order.{keys, flip, equal_true, entries_not_less_number}
@@ -19,7 +19,7 @@ use Rattle.image.specs.Nodes.{count, Node, node_at, entry_of}
 use Rattle.image.specs.Sound.{Header, header_holds}
 use Rattle.image.specs.Search.{below, OnEqual, to_stop, to_go_down, to_pass, turn_by, searched, standing}
 use Rattle.image.specs.Refusals.{damaged, given, reading}
-use Rattle.image.specs.EntryMoves.{Cursor, nowhere, on, next}
+use Rattle.image.specs.EntryMoves.{Cursor, nowhere, on}
 use Rattle.image.specs.Meaning.{IsNode}
 use Rattle.image.specs.Cuts.{Cut, all, from, above, below, admits, near_at, nearest, NearLands}
 use Rattle.image.specs.Lookup.{Looked, found, deleted, absent, says_of, said_at}

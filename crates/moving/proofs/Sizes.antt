@@ -3,10 +3,10 @@ use Prim.Native.Nat.{ℕ, ◌+◌, ◌-◌, ◌*◌, ◌<◌, ◌≤◌}
 use native.Mathlib.Omega.{arith}
 use mathlib.Core.Path.{◌≡◌, refl}
 use mathlib.Core.Bool.{Bool, true, false}
-use lib.Dec.{ltb, leb}
+use lib.Dec.{leb}
 use borrow.Author.Tests.{lt-ltb, le-ltb, leb-true}
 use Rattle.moving.specs.Entries.{len_size, entry_size}
-use Rattle.moving.specs.Insert.{RoomFor, RoomIs}
+use Rattle.moving.specs.Insert.{RoomIs}
 use Rattle.moving.specs.declared.nodes.Frame.{Frame}
 
 -- a length below 128 takes one byte

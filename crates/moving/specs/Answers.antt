@@ -1,7 +1,7 @@
 -- Answers of one table: looks, numbers of nodes and spans within their limits.
-use Rattle.std.specs.Prelude.{ℕ, ◌+◌, ◌*◌, ◌≤◌}
+use Rattle.std.specs.Prelude.{ℕ, ◌+◌, ◌≤◌}
 use Rattle.moving.specs.Entries.{KeyInside, PartsInside}
-use Rattle.moving.specs.Nodes.{Within, LeadInside}
+use Rattle.moving.specs.Nodes.{Within}
 use Rattle.moving.specs.declared.nodes.Frame.{Frame}
 use Rattle.moving.specs.declared.memtable.Lookup.{Lookup}
 use Rattle.moving.specs.declared.memtable.Lookup.TheVariants as lookup

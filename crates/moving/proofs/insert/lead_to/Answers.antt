@@ -1,5 +1,4 @@
 use native.Mathlib.Omega.{arith}
-use Prim.Native.Nat.{◌-◌}
 use Rattle.moving.proofs.insert.lead_to.Goals as goal
 
 pub put_word-requires : goal.put_word-requires

@@ -1,5 +1,4 @@
 use native.Mathlib.Omega.{arith}
-use Prim.Native.Nat.{◌-◌}
 use Rattle.moving.proofs.insert.read_links.Goals as goal
 
 pub get_word-requires : goal.get_word-requires

@@ -1,4 +1,3 @@
-use Prim.Native.Nat.{◌-◌}
 use Rattle.moving.proofs.Links.{begin, one_more, ended}
 use borrow.Author.Rules.{rules}
 use Rattle.moving.proofs.skipmap.search.Goals as goal

@@ -1,5 +1,4 @@
 use lib.ListN.{length-set}
-use Prim.Native.Nat.{◌-◌}
 use borrow.Author.Rules.{rules}
 use Rattle.moving.proofs.words.put_bytes.Goals as goal
 

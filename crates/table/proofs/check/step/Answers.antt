@@ -1,5 +1,4 @@
 -- `check::step`: one link a turn, from the lowest level up.
-use Prim.Native.Nat.{◌-◌}
 use Rattle.table.proofs.CheckLaws.{step_begins, step_ends, step_on}
 use Rattle.table.proofs.check.step.Goals as goal
 

@@ -1,5 +1,4 @@
 -- `insert::read_links`: one link a turn, from the lowest level up.
-use Prim.Native.Nat.{◌-◌}
 use Rattle.table.proofs.InsertLaws.{reading_starts, reading_next, reading_ends}
 use Rattle.table.proofs.insert.read_links.Goals as goal
 

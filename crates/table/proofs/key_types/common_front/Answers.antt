@@ -1,7 +1,6 @@
 -- `key_types::common_front`: eight bytes that are equal as a number change nothing of what is left to compare.
 use borrow.Author.Rules.{rules}
 use native.Mathlib.Omega.{arith}
-use Prim.Native.Nat.{◌-◌}
 use mathlib.Core.Path.{sym, ◌∙◌}
 use Rattle.table.proofs.KeyTypesLaws.{left_all, same_bytes, front_left}
 use Rattle.table.proofs.key_types.common_front.Goals as goal

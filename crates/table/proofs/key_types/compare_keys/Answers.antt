@@ -1,6 +1,5 @@
 -- `key_types::compare_keys`: what is left to compare after i bytes decides.
 use borrow.Author.Rules.{rules}
-use Prim.Native.Nat.{◌-◌}
 use mathlib.Core.Path.{sym, ◌∙◌}
 use Rattle.table.proofs.KeyTypesLaws.{left_front, both_ended, first_ended, second_ended, less_byte, greater_byte, same_byte}
 use Rattle.table.proofs.key_types.compare_keys.Goals as goal

@@ -1,5 +1,4 @@
 -- `skipmap::search`: the whole search is what the machine finds from here, with the looks that are left.
-use Prim.Native.Nat.{◌-◌}
 use mathlib.Core.Path.{sym, ap, ◌∙◌}
 use Rattle.table.specs.Skipmap.{turn_read}
 use Rattle.table.proofs.SkipmapLaws.{looking_start, looking_out, looking_over, looking_bad, looking_halt, looking_onward, looking_ends, looking_down}

@@ -1,5 +1,4 @@
 -- `words::put_bytes`: after i turns the first i bytes are written.
-use Prim.Native.Nat.{◌-◌}
 use mathlib.Core.Path.{refl}
 use native.Mathlib.Omega.{arith}
 use lib.ListN.{length-set}
