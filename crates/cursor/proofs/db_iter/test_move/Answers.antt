@@ -18,15 +18,18 @@ returns-then-not-is_inside c =
 
 pub returns-then-not-fits : goal.returns-then-not-fits
 returns-then-not-fits c =
-    asked_number c.args.first.now c.args.second.now c.args.snapshot c.args.at c.args.key.now c.headers_hold.ensures (ap not c.if-not-headers_hold.false) c.is_inside.ensures (ap not c.if-not-is_inside.false)
+    asked_number c.args.first.now c.args.second.now c.args.snapshot c.args.at c.args.key.now c.headers_hold.ensures
+    (ap not c.if-not-headers_hold.false) c.is_inside.ensures (ap not c.if-not-is_inside.false)
     c.fits.ensures (ap not c.if-not-fits.true)
 
 pub returns-then-key-gt-MAX_KEY : goal.returns-then-key-gt-MAX_KEY
 returns-then-key-gt-MAX_KEY c =
-    asked_key c.args.first.now c.args.second.now c.args.snapshot c.args.at c.args.key.now c.headers_hold.ensures (ap not c.if-not-headers_hold.false) c.is_inside.ensures (ap not c.if-not-is_inside.false)
+    asked_key c.args.first.now c.args.second.now c.args.snapshot c.args.at c.args.key.now c.headers_hold.ensures
+    (ap not c.if-not-headers_hold.false) c.is_inside.ensures (ap not c.if-not-is_inside.false)
     c.fits.ensures (ap not c.if-not-fits.false) c.if-key-gt-MAX_KEY.true
 
 pub returns : goal.returns
 returns c =
-    asked_passed c.args.first.now c.args.second.now c.args.snapshot c.args.at c.args.key.now c.headers_hold.ensures (ap not c.if-not-headers_hold.false) c.is_inside.ensures (ap not c.if-not-is_inside.false)
+    asked_passed c.args.first.now c.args.second.now c.args.snapshot c.args.at c.args.key.now c.headers_hold.ensures
+    (ap not c.if-not-headers_hold.false) c.is_inside.ensures (ap not c.if-not-is_inside.false)
     c.fits.ensures (ap not c.if-not-fits.false) c.if-key-gt-MAX_KEY.false

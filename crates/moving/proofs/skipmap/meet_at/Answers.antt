@@ -16,4 +16,5 @@ overflow_add-m c =
 pub returns-else-m-level : goal.returns-else-m-level
 returns-else-m-level c =
     let i = rw c.in-Got.is at c.lead_of-lead.ensures in
-    turn_fits (length c.args.s.now) c.args.level c.args.x (c.in-Got.m.start + 8) c.turn_by.result c.turn_by.ensures (omega (arith, i.links, i.end, c.requires.within.high, c.if-m-level.false)) c.if-x-lt1.false
+    turn_fits (length c.args.s.now) c.args.level c.args.x (c.in-Got.m.start + 8) c.turn_by.result c.turn_by.ensures
+    (omega (arith, i.links, i.end, c.requires.within.high, c.if-m-level.false)) c.if-x-lt1.false

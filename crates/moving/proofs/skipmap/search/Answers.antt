@@ -19,7 +19,15 @@ returns-in-Halt c =
 pub loop-looks-preserved-in-Onward : goal.loop-looks-preserved-in-Onward
 loop-looks-preserved-in-Onward c =
     let t = rw c.in-Onward.is at c.meet_at-turn.ensures in
-    record { inside = t; low = c.loop-looks.invariant.low; few = search rules; bound = c.loop-looks.invariant.bound; small = c.loop-looks.invariant.small; back = search rules; kept = c.loop-looks.invariant.kept }
+    record {
+      inside = t;
+      low = c.loop-looks.invariant.low;
+      few = search rules;
+      bound = c.loop-looks.invariant.bound;
+      small = c.loop-looks.invariant.small;
+      back = search rules;
+      kept = c.loop-looks.invariant.kept;
+    }
 
 pub returns-then-level-eq0 : goal.returns-then-level-eq0
 returns-then-level-eq0 c =
@@ -27,7 +35,15 @@ returns-then-level-eq0 c =
 
 pub loop-looks-preserved : goal.loop-looks-preserved
 loop-looks-preserved c =
-    record { inside = search rules; low = search rules; few = search rules; bound = c.loop-looks.invariant.bound; small = c.loop-looks.invariant.small; back = c.loop-looks.invariant.back; kept = one_more _ _ _ _ c.loop-looks.invariant.kept c.loop-looks.invariant.inside }
+    record {
+      inside = search rules;
+      low = search rules;
+      few = search rules;
+      bound = c.loop-looks.invariant.bound;
+      small = c.loop-looks.invariant.small;
+      back = c.loop-looks.invariant.back;
+      kept = one_more _ _ _ _ c.loop-looks.invariant.kept c.loop-looks.invariant.inside;
+    }
 
 pub returns : goal.returns
 returns c = ended _ _ _ _ _ c.bad-2.ensures tt c.loop-looks.invariant.kept

@@ -22,7 +22,8 @@ returns-then-x-n c =
 
 pub returns-in_default : goal.returns-in_default
 returns-in_default c =
-    absurd (lead_never_bad _ _ c.requires.0 (is_node _ c.loop-left.invariant c.loop-left-test.true c.wide_word-x.ensures c.requires.1.count_is c.if-x-lt1.false c.if-x-n.false c.requires.0) (rw c.in_default.is at c.lead_of.ensures))
+    absurd (lead_never_bad _ _ c.requires.0 (is_node _ c.loop-left.invariant c.loop-left-test.true c.wide_word-x.ensures
+    c.requires.1.count_is c.if-x-lt1.false c.if-x-n.false c.requires.0) (rw c.in_default.is at c.lead_of.ensures))
 
 pub all_meet-requires : goal.all_meet-requires
 all_meet-requires c =
@@ -32,22 +33,28 @@ all_meet-requires c =
 pub returns-then-not-all_meet : goal.returns-then-not-all_meet
 returns-then-not-all_meet c =
     let lead-of-known = rw c.in-Got.is at c.lead_of.ensures in
-    walk_misses _ c.loop-left.invariant c.loop-left-test.true c.wide_word-x.ensures c.requires.1.count_is c.if-x-lt1.false c.if-x-n.false c.requires.0 _ lead-of-known c.all_meet.ensures (ap not c.if-not-all_meet.true)
+    walk_misses _ c.loop-left.invariant c.loop-left-test.true c.wide_word-x.ensures c.requires.1.count_is c.if-x-lt1.false
+    c.if-x-n.false c.requires.0 _ lead-of-known c.all_meet.ensures (ap not c.if-not-all_meet.true)
 
 pub may_follow-requires : goal.may_follow-requires
 may_follow-requires c =
-    let lead-of-known = rw c.in-Got.is at c.lead_of.ensures in
-    (met_inside _ c.requires.0 c.loop-left.invariant, key_inside_here _ c.loop-left.invariant c.loop-left-test.true c.wide_word-x.ensures c.requires.1.count_is c.if-x-lt1.false c.if-x-n.false c.requires.0 _ lead-of-known)
+    let lead-of-known = rw c.in-Got.is at c.lead_of.ensures in (
+      met_inside _ c.requires.0 c.loop-left.invariant,
+      key_inside_here _ c.loop-left.invariant c.loop-left-test.true
+          c.wide_word-x.ensures c.requires.1.count_is c.if-x-lt1.false c.if-x-n.false c.requires.0 _ lead-of-known,
+    )
 
 pub returns-then-not-may_follow : goal.returns-then-not-may_follow
 returns-then-not-may_follow c =
     let lead-of-known = rw c.in-Got.is at c.lead_of.ensures in
-    walk_disordered _ c.loop-left.invariant c.loop-left-test.true c.wide_word-x.ensures c.requires.1.count_is c.if-x-lt1.false c.if-x-n.false c.requires.0 _ lead-of-known c.all_meet.ensures (ap not c.if-not-all_meet.false) c.may_follow.ensures (ap not c.if-not-may_follow.true)
+    walk_disordered _ c.loop-left.invariant c.loop-left-test.true c.wide_word-x.ensures c.requires.1.count_is c.if-x-lt1.false c.if-x-n.false
+    c.requires.0 _ lead-of-known c.all_meet.ensures (ap not c.if-not-all_meet.false) c.may_follow.ensures (ap not c.if-not-may_follow.true)
 
 pub overflow_add-m : goal.overflow_add-m
 overflow_add-m c =
     let lead-of-known = rw c.in-Got.is at c.lead_of.ensures in
-    let h = links_inside _ _ c.requires.0 (is_node _ c.loop-left.invariant c.loop-left-test.true c.wide_word-x.ensures c.requires.1.count_is c.if-x-lt1.false c.if-x-n.false c.requires.0) lead-of-known in
+    let h = links_inside _ _ c.requires.0 (is_node _ c.loop-left.invariant c.loop-left-test.true c.wide_word-x.ensures
+    c.requires.1.count_is c.if-x-lt1.false c.if-x-n.false c.requires.0) lead-of-known in
     omega (arith, h.inside, c.requires.0.header.short)
 
 pub step-next-requires-in-loop-left : goal.step-next-requires-in-loop-left
@@ -58,7 +65,9 @@ step-next-requires-in-loop-left c =
 pub loop-left-preserved : goal.loop-left-preserved
 loop-left-preserved c =
     let lead-of-known = rw c.in-Got.is at c.lead_of.ensures in
-    walk_on _ c.loop-left.invariant c.loop-left-test.true c.wide_word-x.ensures c.requires.1.count_is c.if-x-lt1.false c.if-x-n.false c.requires.0 _ lead-of-known c.all_meet.ensures (ap not c.if-not-all_meet.false) c.may_follow.ensures (ap not c.if-not-may_follow.false) c.step-next-in-loop-left.ensures
+    walk_on _ c.loop-left.invariant c.loop-left-test.true c.wide_word-x.ensures c.requires.1.count_is
+    c.if-x-lt1.false c.if-x-n.false c.requires.0 _ lead-of-known c.all_meet.ensures (ap not c.if-not-all_meet.false)
+    c.may_follow.ensures (ap not c.if-not-may_follow.false) c.step-next-in-loop-left.ensures
 
 pub returns : goal.returns
 returns c = walk_ends _ c.loop-left.invariant c.loop-left-test.false c.all_meet-2.ensures

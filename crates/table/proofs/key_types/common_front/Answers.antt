@@ -17,7 +17,8 @@ returns-then-x-y c = front_left _ _ _ c.loop-i.invariant.0 c.loop-i.invariant.1 
 pub loop-i-preserved : goal.loop-i-preserved
 loop-i-preserved c =
     let same = sym c.get_u64-x.ensures ∙ c.if-x-y.false ∙ c.get_u64-y.ensures in
-    let bytes = same_bytes 8 c.args.a.now c.args.b.now c.loop-i.i (λ i. (c.type_inv.a i).fits) (λ i. (c.type_inv.b i).fits) (omega (arith, c.loop-i-test.true)) (omega (arith, c.if-b-i-lt8.false)) same in
+    let bytes = same_bytes 8 c.args.a.now c.args.b.now c.loop-i.i (λ i. (c.type_inv.a i).fits) (λ i. (c.type_inv.b i).fits)
+    (omega (arith, c.loop-i-test.true)) (omega (arith, c.if-b-i-lt8.false)) same in
     (search rules, search rules, c.loop-i.invariant.2 ∙ bytes)
 
 pub returns : goal.returns

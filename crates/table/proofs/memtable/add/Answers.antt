@@ -24,24 +24,29 @@ returns-then-key-gt-MAX_KEY c =
 pub returns-then-value-gt-MAX_VALUE : goal.returns-then-value-gt-MAX_VALUE
 returns-then-value-gt-MAX_VALUE c =
     let read-frame-known = rw c.in-Good.is at c.read_frame.ensures in
-    adds_refused _ _ _ _ (at_value _ _ _ read-frame-known c.known.ensures (ap not c.if-not-known.false) c.fits.ensures (ap not c.if-not-fits.false) c.if-key-gt-MAX_KEY.false c.if-value-gt-MAX_VALUE.true)
+    adds_refused _ _ _ _ (at_value _ _ _ read-frame-known c.known.ensures (ap not c.if-not-known.false)
+    c.fits.ensures (ap not c.if-not-fits.false) c.if-key-gt-MAX_KEY.false c.if-value-gt-MAX_VALUE.true)
 
 pub returns-then-height-lt1 : goal.returns-then-height-lt1
 returns-then-height-lt1 c =
     let read-frame-known = rw c.in-Good.is at c.read_frame.ensures in
-    adds_refused _ _ _ _ (at_flat _ _ _ read-frame-known c.known.ensures (ap not c.if-not-known.false) c.fits.ensures (ap not c.if-not-fits.false) c.if-key-gt-MAX_KEY.false c.if-value-gt-MAX_VALUE.false c.if-height-lt1.true)
+    adds_refused _ _ _ _ (at_flat _ _ _ read-frame-known c.known.ensures (ap not c.if-not-known.false) c.fits.ensures
+    (ap not c.if-not-fits.false) c.if-key-gt-MAX_KEY.false c.if-value-gt-MAX_VALUE.false c.if-height-lt1.true)
 
 pub returns-then-height-gt-LEVELS : goal.returns-then-height-gt-LEVELS
 returns-then-height-gt-LEVELS c =
     let read-frame-known = rw c.in-Good.is at c.read_frame.ensures in
-    adds_refused _ _ _ _ (at_tall _ _ _ read-frame-known c.known.ensures (ap not c.if-not-known.false) c.fits.ensures (ap not c.if-not-fits.false) c.if-key-gt-MAX_KEY.false c.if-value-gt-MAX_VALUE.false c.if-height-lt1.false c.if-height-gt-LEVELS.true)
+    adds_refused _ _ _ _ (at_tall _ _ _ read-frame-known c.known.ensures (ap not c.if-not-known.false) c.fits.ensures (ap not c.if-not-fits.false)
+    c.if-key-gt-MAX_KEY.false c.if-value-gt-MAX_VALUE.false c.if-height-lt1.false c.if-height-gt-LEVELS.true)
 
 pub insert-requires : goal.insert-requires
 insert-requires c =
     let read-frame-known = rw c.in-Good.is at c.read_frame.ensures in
-    allowed _ _ _ read-frame-known c.known.ensures (ap not c.if-not-known.false) c.fits.ensures (ap not c.if-not-fits.false) c.if-key-gt-MAX_KEY.false c.if-value-gt-MAX_VALUE.false c.if-height-lt1.false c.if-height-gt-LEVELS.false
+    allowed _ _ _ read-frame-known c.known.ensures (ap not c.if-not-known.false) c.fits.ensures (ap not c.if-not-fits.false)
+    c.if-key-gt-MAX_KEY.false c.if-value-gt-MAX_VALUE.false c.if-height-lt1.false c.if-height-gt-LEVELS.false
 
 pub returns : goal.returns
 returns c =
     let read-frame-known = rw c.in-Good.is at c.read_frame.ensures in
-    adds_inserted _ _ _ _ _ _ (allowed _ _ _ read-frame-known c.known.ensures (ap not c.if-not-known.false) c.fits.ensures (ap not c.if-not-fits.false) c.if-key-gt-MAX_KEY.false c.if-value-gt-MAX_VALUE.false c.if-height-lt1.false c.if-height-gt-LEVELS.false) c.insert.ensures c.as_added.ensures
+    adds_inserted _ _ _ _ _ _ (allowed _ _ _ read-frame-known c.known.ensures (ap not c.if-not-known.false) c.fits.ensures (ap not c.if-not-fits.false)
+    c.if-key-gt-MAX_KEY.false c.if-value-gt-MAX_VALUE.false c.if-height-lt1.false c.if-height-gt-LEVELS.false) c.insert.ensures c.as_added.ensures

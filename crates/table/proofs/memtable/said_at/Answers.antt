@@ -18,4 +18,5 @@ returns-in-Bad c =
 pub returns-in-Got : goal.returns-in-Got
 returns-in-Got c =
     let node-of-known = rw c.in-Got.is at c.node_of-read.ensures in
-    said_node c.args.s.now c.args.key.now c.args.node c.if-node-lt1.false node-of-known c.key_in.ensures (c.is_equal-same.ensures ∙ ap is_equal c.compare_keys.ensures) c.kind.ensures (c.says.ensures _)
+    said_node c.args.s.now c.args.key.now c.args.node c.if-node-lt1.false node-of-known c.key_in.ensures
+    (c.is_equal-same.ensures ∙ ap is_equal c.compare_keys.ensures) c.kind.ensures (c.says.ensures _)

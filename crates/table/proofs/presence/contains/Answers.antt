@@ -43,4 +43,5 @@ pub returns : goal.returns
 returns c =
     let framed = rw c.in-Good.is at c.read_frame.ensures in
     let stands = rw c.in-Node.is at c.first_not_passed-stands.ensures in
-    has _ _ _ _ _ (has_hit _ _ _ _ framed c.known.ensures (ap not c.if-not-known.false) c.fits.ensures (ap not c.if-not-fits.false) c.if-key-gt-MAX_KEY.false stands.exact (ap not c.if-not-equal.false) c.held_at.ensures)
+    has _ _ _ _ _ (has_hit _ _ _ _ framed c.known.ensures (ap not c.if-not-known.false) c.fits.ensures (ap not c.if-not-fits.false)
+    c.if-key-gt-MAX_KEY.false stands.exact (ap not c.if-not-equal.false) c.held_at.ensures)

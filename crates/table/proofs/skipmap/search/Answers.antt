@@ -21,11 +21,13 @@ returns-in-Halt c =
 
 pub loop-looks-preserved-in-Onward : goal.loop-looks-preserved-in-Onward
 loop-looks-preserved-in-Onward c =
-    looking_onward c.loop-looks.invariant c.loop-looks-test.true c.get_word-after.ensures.0 c.if-after-n.false (sym (ap turn_read c.in-Onward.is) ∙ c.meet_at-turn.ensures.0) (rw c.in-Onward.is at c.meet_at-turn.ensures.1)
+    looking_onward c.loop-looks.invariant c.loop-looks-test.true c.get_word-after.ensures.0 c.if-after-n.false
+    (sym (ap turn_read c.in-Onward.is) ∙ c.meet_at-turn.ensures.0) (rw c.in-Onward.is at c.meet_at-turn.ensures.1)
 
 pub returns-then-level-eq0 : goal.returns-then-level-eq0
 returns-then-level-eq0 c =
-    rw c.ends.ensures (looking_ends c.loop-looks.invariant c.loop-looks-test.true c.get_word-after.ensures.0 c.if-after-n.false (sym (ap turn_read c.in-Below.is) ∙ c.meet_at-turn.ensures.0) c.if-level-eq0.true)
+    rw c.ends.ensures (looking_ends c.loop-looks.invariant c.loop-looks-test.true c.get_word-after.ensures.0
+    c.if-after-n.false (sym (ap turn_read c.in-Below.is) ∙ c.meet_at-turn.ensures.0) c.if-level-eq0.true)
 
 pub loop-looks-preserved : goal.loop-looks-preserved
 loop-looks-preserved c =
