@@ -8,168 +8,125 @@ mod entry; // entry.rt: an entry as document 01 writes it
 mod entry_cursor; // entry_cursor.rt: the calls on the entry cursor
 mod given; // given.rt: numbers and bytes as a line gives them
 mod lines; // lines.rt: what a line asks for
-mod memory; // memory.rt: writing into the memories
 mod one_table; // one_table.rt: the calls on one table
-mod ops; // ops.rt: the words that a line begins with
 mod pair; // pair.rt: the calls over both tables
-mod put; // put.rt: writing into a line
 mod show; // show.rt: answers in words
 mod state; // state.rt: what lines carry from one to the next
+mod tables; // tables.rt: the two tables by name
 mod tally; // tally.rt: how many answers were as expected
-mod text; // text.rt: parts and words of a text
+mod trouble; // trouble.rt: why a line has no answer
 mod writes; // writes.rt: what writes to a table's memory
 
-ghost use Rattle.std.specs.Prelude.{◌≡◌, ◌<◌, ◌≤◌, length, IfOk};
-
-use crate::state::UNCLEAR;
-use crate::text::{arrow, begins, byte, find, front, part, rest, same};
+use crate::state::State;
+use crate::tally::Tally;
+use crate::trouble::Trouble;
+use std::alloc::{AllocError, Global};
 use std::io;
 use std::io::{Read, Write};
 
+// Fewer bytes than this are a text.
+const TOO_LONG: usize = 524288;
+
+// No more of an answer is compared and written than this: the longest value, 4,096 bytes, and some words.
+const LONGEST_ANSWER: usize = 4200;
+
+const ARROW: &[u8] = b" -> ";
+
 // Whether an answer is the expected one. Behind two dots at its end an expectation says nothing.
 fn holds(expected: &[u8], answer: &[u8]) -> bool {
-    let n = expected.len();
-    if n > 3 {
-        if same(part(expected, n - 3, 3), b" ..") {
-            return begins(answer, part(expected, 0, n - 2));
-        }
+    match expected.strip_suffix(b"..") {
+        Some(front) if front.len() > 1 && front.ends_with(b" ") => answer.starts_with(front),
+        _ => answer == expected,
     }
-    same(expected, answer)
 }
 
-// Writes a line whose answer differs.
-fn differs(
-    to: &mut impl Write,
-    n: u64,
-    line: &[u8],
-    formed: bool,
-    answer: &[u8],
-) -> io::Result<()> {
+// Writes a line whose answer differs, or that is none.
+fn differs(to: &mut impl Write, n: u64, line: &[u8], answer: Option<&[u8]>) -> io::Result<()> {
     write!(to, "line {n}: ")?;
     to.write_all(line)?;
-    if formed {
-        to.write_all(b"\n  came out: ")?;
-        to.write_all(answer)?;
-    } else {
-        to.write_all(b"\n  is no line of a case")?;
+    match answer {
+        Some(answer) => {
+            to.write_all(b"\n  came out: ")?;
+            to.write_all(answer)?;
+        }
+        None => to.write_all(b"\n  is no line of a case")?,
     }
     to.write_all(b"\n")
 }
 
-// Judges what a line came to. One that asks nothing is counted only if it is wrong.
-fn judge(
-    to: &mut impl Write,
-    n: u64,
-    line: &[u8],
-    said: usize,
-    out: &[u8; 4200],
-    by: usize,
-    counts: &mut [u64; 11],
-) -> io::Result<()> {
-    let answer = front(out, said);
-    let expected = rest(rest(line, arrow(line)), 4);
-    let formed = said < UNCLEAR;
-    if !(formed & holds(expected, answer)) {
-        tally::note(counts, by, false);
-        return differs(to, n, line, formed, answer);
-    }
-    if answer.len() > 0 {
-        tally::note(counts, by, true);
-    }
-    Ok(())
+// The call of a line, and what is expected of it: nothing, where there is no arrow.
+fn cut(line: &[u8]) -> (&[u8], &[u8]) {
+    let arrow = line.windows(ARROW.len()).position(|w| w == ARROW);
+    let (call, behind) = line.split_at(arrow.unwrap_or(line.len()));
+    (call, behind.strip_prefix(ARROW).unwrap_or(&[]))
 }
 
-// Whether a line says nothing: an empty one, and a comment.
-fn is_comment(line: &[u8]) -> bool {
-    if line.len() < 1 {
-        return true;
-    }
-    byte(line, 0) == b'#'
+// The first bytes of an answer, as many as are compared.
+fn front(answer: &str) -> &[u8] {
+    let answer = answer.as_bytes();
+    answer.get(..LONGEST_ANSWER).unwrap_or(answer)
 }
 
-// Runs the line with the number n, the first being 1.
+// Runs the line with the number n, the first being 1. One that asks nothing is counted only if it is wrong.
 fn run_line(
+    alloc: Global,
     to: &mut impl Write,
     n: u64,
     line: &[u8],
-    memory: &mut [u8],
-    state: &mut [usize; 10],
-    counts: &mut [u64; 11],
+    state: &mut State,
+    tally: &mut Tally,
 ) -> io::Result<()> {
-    if is_comment(line) {
-        return Ok(());
+    let (call, expected) = cut(line);
+    let words: Vec<&[u8]> = call.split(|b| *b == b' ').collect(alloc)?;
+    let mut out = String::new(alloc);
+    let answer = match lines::follow(alloc, words.as_slice(), state, &mut out) {
+        Ok(()) => Some(front(out.as_str())),
+        Err(Trouble::NoLine) => None,
+        Err(Trouble::OutOfMemory) => return Err(AllocError.into()),
+    };
+    match answer {
+        Some(b"") if expected.is_empty() => Ok(()),
+        Some(answer) if holds(expected, answer) => {
+            tally.note(state.by, true);
+            Ok(())
+        }
+        _ => {
+            tally.note(state.by, false);
+            differs(to, n, line, answer)
+        }
     }
-    let mut out = [0u8; 4200];
-    let call = part(line, 0, arrow(line));
-    let said = lines::follow(call, memory, state, &mut out);
-    judge(to, n, line, said, &out, state[state::BY], counts)
 }
 
-// Where the line behind the one at a place begins.
-fn behind(s: &[u8], at: usize) -> usize
-    requires { at < length s.now }
-    ensures { at < result }
-{
-    let len = find(rest(s, at), b'\n');
-    at + len + 1
-}
-
-// Runs the lines of a text.
+// Runs the lines of a text; an empty one and a comment say nothing.
 fn run(
+    alloc: Global,
     to: &mut impl Write,
-    all: &[u8],
-    memory: &mut [u8],
-    state: &mut [usize; 10],
-    counts: &mut [u64; 11],
+    text: &[u8],
+    state: &mut State,
+    tally: &mut Tally,
 ) -> io::Result<()> {
-    let mut n = 0;
-    let mut at = 0;
-    while at < all.len() {
-        let line = text::before(rest(all, at), b'\n');
-        n += 1;
-        run_line(to, n, line, memory, state, counts)?;
-        at = behind(all, at);
+    for (n, line) in (1u64..).zip(text.split(|b| *b == b'\n')) {
+        if !matches!(line, [] | [b'#', ..]) {
+            run_line(alloc, to, n, line, state, tally)?;
+        }
     }
     Ok(())
 }
 
-// Reads until the memory is full or the input ends; how many bytes there were.
-fn read_full(from: &mut impl Read, memory: &mut [u8]) -> io::Result<usize>
-    ensures { IfOk result (λ n. n ≤ length memory.new) }
-{
-    let mut done = 0;
-    while done < memory.len() {
-        let n = from.read(&mut memory[done..])?;
-        if n == 0 {
-            break;
-        }
-        done += n;
-    }
-    Ok(done)
-}
-
-// Runs the text of an input, which fills less than the memory lent for it, and writes the counts.
-fn run_input(from: &mut impl Read, to: &mut impl Write, space: &mut [u8]) -> io::Result<()> {
-    let mut memory = [0u8; 196611];
-    let mut state = [0usize; 10];
-    let mut counts = [0u64; 11];
-    let n = read_full(from, space)?;
-    run(to, &space[..n], &mut memory, &mut state, &mut counts)?;
-    tally::show(to, &counts)?;
-    if n == space.len() {
+// Runs the text of an input, which is to be shorter than its limit, and writes the counts.
+fn run_input(alloc: Global, from: impl Read + Drop, to: &mut impl Write) -> io::Result<()> {
+    let mut text = Vec::new(alloc);
+    from.take(TOO_LONG as u64).read_to_end(&mut text)?;
+    let mut state = State::new(alloc)?;
+    let mut tally = Tally::default();
+    run(alloc, to, text.as_slice(), &mut state, &mut tally)?;
+    write!(to, "{tally}")?;
+    if text.len() == TOO_LONG {
         to.write_all(b"the text is too long\n")?;
     }
     Ok(())
 }
 
-// Zeros that hold any text. The promise gives the length, which lending the array as a slice asks for.
-fn zeros() -> [u8; 524288]
-    ensures { length result ≡ 524288 }
-{
-    [0; 524288]
-}
-
 fn main(rt: HostRuntime) -> io::Result<()> {
-    let mut space = zeros();
-    run_input(&mut rt.reader(), &mut io::writer(&rt), &mut space)
+    run_input(rt.alloc(), rt.reader(), &mut io::writer(&rt))
 }

@@ -1,88 +1,208 @@
 // Answers in words.
-use crate::put;
-use crate::text::{part, rest, word};
+use crate::given::is_plain;
+use crate::tables::Table;
+use capi::db_iter::BavoMoved;
+use capi::entry_iter::BavoEntryMoved;
 use capi::memtable::{BavoPresence, BavoView, bavo_value};
+use std::alloc::AllocError;
+use std::fmt;
 
-// A refusal's number.
-pub fn refused(out: &mut [u8; 4200], at: usize, refusal: u32) -> usize {
-    put::counted(out, at, b"refused ", refusal as usize)
+// More equal bytes than this are written as one letter so many times.
+const LONG: usize = 16;
+
+// A part of some bytes, if they have it.
+pub fn part(s: &[u8], from: usize, len: usize) -> Option<&[u8]> {
+    s.get(from..)?.get(..len)
 }
 
-// A refused move, with the two numbers of the cursor that it handed back.
-pub fn refused_move(out: &mut [u8; 4200], refusal: u32, on: u32, node: usize) -> usize {
-    let end = refused(out, 0, refusal);
-    let end = put::counted(out, end, b" back ", on as usize);
-    put::counted(out, end, b" ", node)
-}
+// Bytes in hexadecimal.
+#[derive(Clone, Copy, Debug)]
+pub struct Hex<'a>(pub &'a [u8]);
 
-// The bytes of a view, or its refusal.
-pub fn view(out: &mut [u8; 4200], at: usize, image: &[u8], v: BavoView) -> usize {
-    if v.refusal != 0 {
-        return refused(out, at, v.refusal);
+impl fmt::Display for Hex<'_> {
+    fn fmt<W: fmt::Write>(&self, f: &mut fmt::Formatter<W>) -> fmt::Result {
+        for b in self.0 {
+            write!(f, "{b:02x}")?;
+        }
+        Ok(())
     }
-    put::bytes(out, at, part(image, v.offset, v.length))
 }
 
-// The same with the place where the bytes stand.
-pub fn view_at(out: &mut [u8; 4200], image: &[u8], table: u32, v: BavoView) -> usize {
-    let end = view(out, 0, image, v);
-    if v.refusal != 0 {
-        return end;
+// Bytes as a line gives them.
+#[derive(Clone, Copy, Debug)]
+pub struct Bytes<'a>(pub &'a [u8]);
+
+impl fmt::Display for Bytes<'_> {
+    fn fmt<W: fmt::Write>(&self, f: &mut fmt::Formatter<W>) -> fmt::Result {
+        let Some(first) = self.0.first() else {
+            return f.write_str("\"\"");
+        };
+        if !is_plain(self.0) {
+            return write!(f, "x:{}", Hex(self.0));
+        }
+        if self.0.len() > LONG && self.0.iter().all(|b| b == first) {
+            return write!(f, "{}*{}", char::from(*first), self.0.len());
+        }
+        for b in self.0 {
+            f.write_char(char::from(*b))?;
+        }
+        Ok(())
     }
-    let end = in_table(out, end, table);
-    put::counted(out, end, b" at ", v.offset)
 }
 
-// The first or the second table; 0 is none.
-fn in_table(out: &mut [u8; 4200], at: usize, table: u32) -> usize {
-    let from = if table == 2 { 5 } else { 0 };
-    let len = if table == 0 { 0 } else { 5 };
-    put::text(out, at, part(b" in A in B", from, len))
-}
+// A refused call, by the refusal's number.
+#[derive(Clone, Copy, Debug)]
+pub struct Refused(pub u32);
 
-// A node, and of a pair its table.
-pub fn place(out: &mut [u8; 4200], at: usize, table: u32, node: usize) -> usize {
-    let end = in_table(out, at, table);
-    put::counted(out, end, b" node ", node)
-}
-
-// The value and the place of a found node.
-fn found(out: &mut [u8; 4200], at: usize, image: &[u8], table: u32, node: usize) -> usize {
-    let end = put::byte(out, at, b' ');
-    let end = view(out, end, image, bavo_value(image, node));
-    place(out, end, table, node)
-}
-
-// What a lookup answered; the image is that of the found node.
-pub fn lookup(
-    out: &mut [u8; 4200],
-    image: &[u8],
-    answer: u32,
-    table: u32,
-    node: usize,
-    looks: usize,
-) -> usize {
-    let end = put::text(out, 0, word(b"absent found deleted", answer as usize));
-    if answer != 1 {
-        return put::counted(out, end, b" looks ", looks);
+impl fmt::Display for Refused {
+    fn fmt<W: fmt::Write>(&self, f: &mut fmt::Formatter<W>) -> fmt::Result {
+        write!(f, "refused {}", self.0)
     }
-    let end = found(out, end, image, table, node);
-    put::counted(out, end, b" looks ", looks)
+}
+
+// Which table something is in, where it is not plain.
+#[derive(Clone, Copy, Debug)]
+pub struct Within(pub Option<Table>);
+
+impl fmt::Display for Within {
+    fn fmt<W: fmt::Write>(&self, f: &mut fmt::Formatter<W>) -> fmt::Result {
+        match self.0 {
+            Some(table) => write!(f, " in {table}"),
+            None => Ok(()),
+        }
+    }
+}
+
+// The bytes of a view in its image, or its refusal.
+#[derive(Clone, Copy)]
+pub struct View<'a> {
+    pub image: &'a [u8],
+    pub view: BavoView,
+}
+
+impl fmt::Display for View<'_> {
+    fn fmt<W: fmt::Write>(&self, f: &mut fmt::Formatter<W>) -> fmt::Result {
+        let BavoView {
+            refusal,
+            offset,
+            length,
+        } = self.view;
+        if refusal != 0 {
+            return write!(f, "{}", Refused(refusal));
+        }
+        write!(
+            f,
+            "{}",
+            Bytes(part(self.image, offset, length).unwrap_or(&[]))
+        )
+    }
+}
+
+impl View<'_> {
+    // Writes the view with the place where the bytes stand.
+    pub fn write_at(self, table: Option<Table>, out: &mut String) -> Result<(), AllocError> {
+        write!(out, "{self}")?;
+        if self.view.refusal != 0 {
+            return Ok(());
+        }
+        write!(out, "{} at {}", Within(table), self.view.offset)
+    }
+}
+
+// What a lookup in one table, or in a pair, answered: 0 absent, 1 found, 2 deleted.
+#[derive(Clone, Copy)]
+pub struct Lookup {
+    pub refusal: u32,
+    pub answer: u32,
+    pub table: Option<Table>,
+    pub node: usize,
+    pub looks: usize,
+}
+
+impl Lookup {
+    // Writes the answer; the image is that of the found node.
+    pub fn write(self, image: &[u8], out: &mut String) -> Result<(), AllocError> {
+        if self.refusal != 0 {
+            return write!(out, "{}", Refused(self.refusal));
+        }
+        match self.answer {
+            0 => out.push_str("absent")?,
+            1 => self.write_found(image, out)?,
+            _ => out.push_str("deleted")?,
+        }
+        write!(out, " looks {}", self.looks)
+    }
+
+    // The value and the place of the found node.
+    fn write_found(self, image: &[u8], out: &mut String) -> Result<(), AllocError> {
+        let view = bavo_value(image, self.node);
+        write!(out, "found {}", View { image, view })?;
+        write!(out, "{} node {}", Within(self.table), self.node)
+    }
 }
 
 // Whether an entry is held.
-pub fn presence(out: &mut [u8; 4200], r: BavoPresence) -> usize {
+pub fn presence(r: BavoPresence, out: &mut String) -> Result<(), AllocError> {
     if r.refusal != 0 {
-        return refused(out, 0, r.refusal);
+        return write!(out, "{}", Refused(r.refusal));
     }
-    let end = unless(out, r.held == 1, b"not held");
-    put::counted(out, end, b" looks ", r.looks)
+    write!(
+        out,
+        "{} looks {}",
+        if r.held == 1 { "held" } else { "not held" },
+        r.looks
+    )
 }
 
-// A text that begins with 'not ', or without that.
-pub fn unless(out: &mut [u8; 4200], yes: bool, s: &[u8]) -> usize {
-    if yes {
-        return put::text(out, 0, rest(s, 4));
+// Where a move led; a refused one hands back the cursor as it was.
+#[derive(Clone, Copy)]
+pub struct Moved {
+    refusal: u32,
+    on: u32,
+    node: usize,
+}
+
+impl From<BavoMoved> for Moved {
+    fn from(r: BavoMoved) -> Moved {
+        Moved {
+            refusal: r.refusal,
+            on: r.table,
+            node: r.node,
+        }
     }
-    put::text(out, 0, s)
+}
+
+impl From<BavoEntryMoved> for Moved {
+    fn from(r: BavoEntryMoved) -> Moved {
+        Moved {
+            refusal: r.refusal,
+            on: r.on,
+            node: r.node,
+        }
+    }
+}
+
+impl Moved {
+    // Writes where the move led; what stands there is written by the one who knows it.
+    pub fn write<F: FnOnce(&mut String) -> Result<(), AllocError>>(
+        self,
+        out: &mut String,
+        write_there: F,
+    ) -> Result<(), AllocError>
+        requires { F.IsAlwaysCallable write_there }
+    {
+        if self.refusal != 0 {
+            return write!(
+                out,
+                "{} back {} {}",
+                Refused(self.refusal),
+                self.on,
+                self.node
+            );
+        }
+        if self.on == 0 {
+            return out.push_str("nowhere");
+        }
+        write_there(out)
+    }
 }
