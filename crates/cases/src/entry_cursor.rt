@@ -13,23 +13,20 @@ use std::alloc::{AllocError, Global};
 
 // The entry at a cursor, as document 01 writes it, and its node; an empty value of a deletion is not written.
 fn write_entry(image: &[u8], at: BavoEntryCursor, out: &mut String) -> Result<(), AllocError> {
-    let key = View {
-        image,
-        view: bavo_entry_key(image, at),
-    };
+    let key = View::new(image, bavo_entry_key(image, at));
     let number = bavo_entry_number(image, at);
     let kind = bavo_entry_kind(image, at);
-    let view = bavo_entry_value(image, at);
+    let value = bavo_entry_value(image, at);
     let mark = if kind == 1 { '=' } else { '-' };
     write!(out, "{key}@{number}{mark}")?;
-    if kind != 0 || view.length > 0 {
-        write!(out, "{}", View { image, view })?;
+    if kind != 0 || value.length > 0 {
+        write!(out, "{}", View::new(image, value))?;
     }
     write!(out, " node {}", at.node)
 }
 
 // Takes the cursor where a move led, and writes that.
-fn go(memory: &mut Memory, r: BavoEntryMoved, out: &mut String) -> Result<(), AllocError> {
+fn go(r: BavoEntryMoved, memory: &mut Memory, out: &mut String) -> Result<(), AllocError> {
     let at = BavoEntryCursor {
         on: r.on,
         node: r.node,
@@ -37,25 +34,6 @@ fn go(memory: &mut Memory, r: BavoEntryMoved, out: &mut String) -> Result<(), Al
     memory.cursor = at;
     let image = memory.image.as_slice();
     Moved::from(r).write(out, |out| write_entry(image, at, out))
-}
-
-// The moves.
-fn moved(
-    alloc: Global,
-    words: &[&[u8]],
-    image: &[u8],
-    at: BavoEntryCursor,
-) -> Result<Option<BavoEntryMoved>, Trouble> {
-    Ok(match words {
-        [b"entry_first", _] => Some(bavo_entry_first(image, at)),
-        [b"entry_seek", _, key] => {
-            let key = Key::new(alloc, key)?;
-            Some(bavo_entry_seek(image, at, key.bytes.as_slice(), key.number))
-        }
-        [b"entry_next", _] => Some(bavo_entry_next(image, at)),
-        [b"entry_prev", _] => Some(bavo_entry_prev(image, at)),
-        _ => None,
-    })
 }
 
 // The moves, and what stands at the cursor. Any other line is a question to the table.
@@ -67,24 +45,17 @@ pub fn ask(
 ) -> Result<(), Trouble> {
     let image = memory.image.as_slice();
     let at = memory.cursor;
-    if let Some(r) = moved(alloc, words, image, at)? {
-        return Ok(go(memory, r, out)?);
-    }
     match words {
-        [b"entry_key", _] => {
-            View {
-                image,
-                view: bavo_entry_key(image, at),
-            }
-            .write_at(None, out)?
+        [b"entry_first", _] => go(bavo_entry_first(image, at), memory, out)?,
+        [b"entry_seek", _, key] => {
+            let key = Key::new(alloc, key)?;
+            let r = bavo_entry_seek(image, at, key.bytes.as_slice(), key.number);
+            go(r, memory, out)?
         }
-        [b"entry_value", _] => {
-            View {
-                image,
-                view: bavo_entry_value(image, at),
-            }
-            .write_at(None, out)?
-        }
+        [b"entry_next", _] => go(bavo_entry_next(image, at), memory, out)?,
+        [b"entry_prev", _] => go(bavo_entry_prev(image, at), memory, out)?,
+        [b"entry_key", _] => View::new(image, bavo_entry_key(image, at)).write_at(None, out)?,
+        [b"entry_value", _] => View::new(image, bavo_entry_value(image, at)).write_at(None, out)?,
         [b"entry_number", _] => write!(out, "{}", bavo_entry_number(image, at))?,
         [b"entry_kind", _] => write!(out, "{}", bavo_entry_kind(image, at))?,
         [b"entry_refusal", _] => write!(out, "{}", bavo_entry_refusal(image, at))?,

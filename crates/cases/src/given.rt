@@ -41,7 +41,7 @@ pub fn hexes(alloc: Global, s: &[u8]) -> Result<Vec<u8>, Trouble> {
     }
     pairs
         .iter()
-        .map(|[high, low]| -> Result<u8, Trouble> { Ok(digit(*high)? << 4 | digit(*low)?) })
+        .map(|[high, low]| -> Result<u8, Trouble> { Ok(digit(*high)? * 16 + digit(*low)?) })
         .try_collect(alloc)
 }
 

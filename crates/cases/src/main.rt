@@ -17,6 +17,8 @@ mod tally; // tally.rt: how many answers were as expected
 mod trouble; // trouble.rt: why a line has no answer
 mod writes; // writes.rt: what writes to a table's memory
 
+ghost use Rattle.std.specs.Prelude.{◌≤◌, length};
+
 use crate::state::State;
 use crate::tally::Tally;
 use crate::trouble::Trouble;
@@ -24,10 +26,10 @@ use std::alloc::{AllocError, Global};
 use std::io;
 use std::io::{Read, Write};
 
-// Fewer bytes than this are a text.
+// A text has fewer bytes than this.
 const TOO_LONG: usize = 524288;
 
-// No more of an answer is compared and written than this: the longest value, 4,096 bytes, and some words.
+// No more of an answer is compared and written: the longest value, 4,096 bytes, and some words.
 const LONGEST_ANSWER: usize = 4200;
 
 const ARROW: &[u8] = b" -> ";
@@ -40,20 +42,6 @@ fn holds(expected: &[u8], answer: &[u8]) -> bool {
     }
 }
 
-// Writes a line whose answer differs, or that is none.
-fn differs(to: &mut impl Write, n: u64, line: &[u8], answer: Option<&[u8]>) -> io::Result<()> {
-    write!(to, "line {n}: ")?;
-    to.write_all(line)?;
-    match answer {
-        Some(answer) => {
-            to.write_all(b"\n  came out: ")?;
-            to.write_all(answer)?;
-        }
-        None => to.write_all(b"\n  is no line of a case")?,
-    }
-    to.write_all(b"\n")
-}
-
 // The call of a line, and what is expected of it: nothing, where there is no arrow.
 fn cut(line: &[u8]) -> (&[u8], &[u8]) {
     let arrow = line.windows(ARROW.len()).position(|w| w == ARROW);
@@ -61,72 +49,88 @@ fn cut(line: &[u8]) -> (&[u8], &[u8]) {
     (call, behind.strip_prefix(ARROW).unwrap_or(&[]))
 }
 
-// The first bytes of an answer, as many as are compared.
-fn front(answer: &str) -> &[u8] {
+// The first bytes of an answer.
+fn front(answer: &str) -> &[u8]
+    ensures { length result.now ≤ LONGEST_ANSWER }
+{
     let answer = answer.as_bytes();
     answer.get(..LONGEST_ANSWER).unwrap_or(answer)
 }
 
-// Runs the line with the number n, the first being 1. One that asks nothing is counted only if it is wrong.
-fn run_line(
+// A run over a text: where it writes, what lines carry from one to the next, and the counts.
+#[derive(Drop)]
+struct Session<W> {
     alloc: Global,
-    to: &mut impl Write,
-    n: u64,
-    line: &[u8],
-    state: &mut State,
-    tally: &mut Tally,
-) -> io::Result<()> {
-    let (call, expected) = cut(line);
-    let words: Vec<&[u8]> = call.split(|b| *b == b' ').collect(alloc)?;
-    let mut out = String::new(alloc);
-    let answer = match lines::follow(alloc, words.as_slice(), state, &mut out) {
-        Ok(()) => Some(front(out.as_str())),
-        Err(Trouble::NoLine) => None,
-        Err(Trouble::OutOfMemory) => return Err(AllocError.into()),
-    };
-    match answer {
-        Some(b"") if expected.is_empty() => Ok(()),
-        Some(answer) if holds(expected, answer) => {
-            tally.note(state.by, true);
-            Ok(())
-        }
-        _ => {
-            tally.note(state.by, false);
-            differs(to, n, line, answer)
-        }
-    }
+    to: W,
+    state: State,
+    tally: Tally,
 }
 
-// Runs the lines of a text; an empty one and a comment say nothing.
-fn run(
-    alloc: Global,
-    to: &mut impl Write,
-    text: &[u8],
-    state: &mut State,
-    tally: &mut Tally,
-) -> io::Result<()> {
-    for (n, line) in (1u64..).zip(text.split(|b| *b == b'\n')) {
-        if !matches!(line, [] | [b'#', ..]) {
-            run_line(alloc, to, n, line, state, tally)?;
-        }
+impl<W: Write + Drop> Session<W> {
+    fn new(alloc: Global, to: W) -> Result<Session<W>, AllocError> {
+        let state = State::new(alloc)?;
+        let tally = Tally::default();
+        Ok(Session {
+            alloc,
+            to,
+            state,
+            tally,
+        })
     }
-    Ok(())
-}
 
-// Runs the text of an input, which is to be shorter than its limit, and writes the counts.
-fn run_input(alloc: Global, from: impl Read + Drop, to: &mut impl Write) -> io::Result<()> {
-    let mut text = Vec::new(alloc);
-    from.take(TOO_LONG as u64).read_to_end(&mut text)?;
-    let mut state = State::new(alloc)?;
-    let mut tally = Tally::default();
-    run(alloc, to, text.as_slice(), &mut state, &mut tally)?;
-    write!(to, "{tally}")?;
-    if text.len() == TOO_LONG {
-        to.write_all(b"the text is too long\n")?;
+    // Counts a line whose answer differs, or that is none, and writes it.
+    fn differs(&mut self, n: u64, line: &[u8], answer: Option<&[u8]>) -> io::Result<()> {
+        self.tally.note(self.state.by, false);
+        write!(self.to, "line {n}: ")?;
+        self.to.write_all(line)?;
+        match answer {
+            Some(answer) => {
+                self.to.write_all(b"\n  came out: ")?;
+                self.to.write_all(answer)?;
+            }
+            None => self.to.write_all(b"\n  is no line of a case")?,
+        }
+        self.to.write_all(b"\n")
     }
-    Ok(())
+
+    // Runs the line with the number n, the first being 1. One that asks nothing is counted only if it is wrong.
+    fn line(&mut self, n: u64, line: &[u8]) -> io::Result<()> {
+        let (call, expected) = cut(line);
+        let words: Vec<&[u8]> = call.split(|b| *b == b' ').collect(self.alloc)?;
+        let mut out = String::new(self.alloc);
+        match lines::follow(self.alloc, words.as_slice(), &mut self.state, &mut out) {
+            Ok(()) => {}
+            Err(Trouble::NoLine) => return self.differs(n, line, None),
+            Err(Trouble::OutOfMemory) => return Err(AllocError.into()),
+        }
+        let answer = front(out.as_str());
+        if !holds(expected, answer) {
+            return self.differs(n, line, Some(answer));
+        }
+        if !answer.is_empty() {
+            self.tally.note(self.state.by, true);
+        }
+        Ok(())
+    }
+
+    // Runs the lines of a text, and writes the counts; an empty line and a comment say nothing.
+    fn text(&mut self, text: &[u8]) -> io::Result<()> {
+        for (n, line) in (1u64..).zip(text.split(|b| *b == b'\n')) {
+            if !matches!(line, [] | [b'#', ..]) {
+                self.line(n, line)?;
+            }
+        }
+        write!(self.to, "{}", self.tally)?;
+        if text.len() == TOO_LONG {
+            self.to.write_all(b"the text is too long\n")?;
+        }
+        Ok(())
+    }
 }
 
 fn main(rt: HostRuntime) -> io::Result<()> {
-    run_input(rt.alloc(), rt.reader(), &mut io::writer(&rt))
+    let alloc = rt.alloc();
+    let mut text = Vec::new(alloc);
+    rt.reader().take(TOO_LONG as u64).read_to_end(&mut text)?;
+    Session::new(alloc, io::writer(&rt))?.text(text.as_slice())
 }

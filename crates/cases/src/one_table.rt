@@ -2,22 +2,22 @@
 use crate::entry::{Entry, Key};
 use crate::given::number;
 use crate::show;
-use crate::show::{Hex, Lookup, View, part};
+use crate::show::{Found, Hex, Lookup, Refused, View, part};
 use crate::trouble::{NoLine, Trouble};
 use capi::memtable::{
     BavoLookup, bavo_check, bavo_contains, bavo_get, bavo_get_value, bavo_value, bavo_value_refusal,
 };
-use std::alloc::Global;
+use std::alloc::{AllocError, Global};
 
-impl From<BavoLookup> for Lookup {
-    fn from(r: BavoLookup) -> Lookup {
-        Lookup {
-            refusal: r.refusal,
-            answer: r.answer,
-            table: None,
-            node: r.node,
+impl TryFrom<BavoLookup> for Lookup {
+    type Error = Refused;
+
+    fn try_from(r: BavoLookup) -> Result<Lookup, Refused> {
+        Refused::unless_zero(r.refusal)?;
+        Ok(Lookup {
+            found: Found::numbered(r.answer, None, r.node),
             looks: r.looks,
-        }
+        })
     }
 }
 
@@ -36,9 +36,17 @@ fn bytes(image: &[u8], from: usize, len: usize, out: &mut String) -> Result<(), 
     Ok(())
 }
 
+// A lookup of a key.
+fn get(image: &[u8], key: &Key, out: &mut String) -> Result<(), AllocError> {
+    let r = bavo_get(image, key.bytes.as_slice(), key.number);
+    match Lookup::try_from(r) {
+        Ok(lookup) => lookup.write(image, out),
+        Err(refused) => write!(out, "{refused}"),
+    }
+}
+
 // Whether an entry is held; the line gives no value.
-fn contains(alloc: Global, image: &[u8], entry: &[u8], out: &mut String) -> Result<(), Trouble> {
-    let entry = Entry::new(alloc, entry)?;
+fn contains(image: &[u8], entry: &Entry<'_>, out: &mut String) -> Result<(), Trouble> {
     if !entry.is_bare() {
         return Err(Trouble::NoLine);
     }
@@ -55,20 +63,15 @@ pub fn ask(alloc: Global, words: &[&[u8]], image: &[u8], out: &mut String) -> Re
         } else {
             "not sound"
         })?,
-        [b"get", _, key] => {
-            let key = Key::new(alloc, key)?;
-            let r = bavo_get(image, key.bytes.as_slice(), key.number);
-            Lookup::from(r).write(image, out)?
-        }
+        [b"get", _, key] => get(image, &Key::new(alloc, key)?, out)?,
         [b"get_value", _, key] => {
             let key = Key::new(alloc, key)?;
-            let view = bavo_get_value(image, key.bytes.as_slice(), key.number);
-            View { image, view }.write_at(None, out)?
+            let value = bavo_get_value(image, key.bytes.as_slice(), key.number);
+            View::new(image, value).write_at(None, out)?
         }
-        [b"contains", _, entry] => contains(alloc, image, entry, out)?,
+        [b"contains", _, entry] => contains(image, &Entry::new(alloc, entry)?, out)?,
         [b"value", _, node] => {
-            let view = bavo_value(image, number(node)?);
-            View { image, view }.write_at(None, out)?
+            View::new(image, bavo_value(image, number(node)?)).write_at(None, out)?
         }
         [b"value_refusal", _, node] => {
             write!(out, "{}", bavo_value_refusal(image, number(node)?))?

@@ -1,7 +1,7 @@
 // The calls over both tables: the lookup in a pair, the moves of the visible cursor, its views.
 use crate::entry::Key;
 use crate::given::number;
-use crate::show::{Lookup, Moved, View, Within};
+use crate::show::{Found, Lookup, Moved, Refused, View, Within};
 use crate::state::State;
 use crate::tables::Table;
 use crate::trouble::{NoLine, Trouble};
@@ -13,15 +13,15 @@ use capi::memtable::{BavoView, bavo_value};
 use capi::row_views::{BavoRowView, bavo_row_key, bavo_row_refusal, bavo_row_value};
 use std::alloc::{AllocError, Global};
 
-impl From<BavoPairLookup> for Lookup {
-    fn from(r: BavoPairLookup) -> Lookup {
-        Lookup {
-            refusal: r.refusal,
-            answer: r.answer,
-            table: Table::numbered(r.table),
-            node: r.node,
+impl TryFrom<BavoPairLookup> for Lookup {
+    type Error = Refused;
+
+    fn try_from(r: BavoPairLookup) -> Result<Lookup, Refused> {
+        Refused::unless_zero(r.refusal)?;
+        Ok(Lookup {
+            found: Found::numbered(r.answer, Table::numbered(r.table), r.node),
             looks: r.looks,
-        }
+        })
     }
 }
 
@@ -48,45 +48,46 @@ impl<'a> Pair<'a> {
         }
     }
 
-    fn get(self, key: &Key) -> BavoPairLookup {
-        bavo_pair_get(self.first, self.second, key.bytes.as_slice(), key.number)
-    }
-
     // A view of a row in the image of its table.
     fn view(self, v: BavoRowView) -> View<'a> {
+        let image = self.image(Table::numbered(v.table));
         let view = BavoView {
             refusal: v.refusal,
             offset: v.offset,
             length: v.length,
         };
-        View {
-            image: self.image(Table::numbered(v.table)),
-            view,
+        View::new(image, view)
+    }
+
+    fn get(self, key: &Key) -> Result<Lookup, Refused> {
+        Lookup::try_from(bavo_pair_get(self.first, self.second, key.bytes.as_slice(), key.number))
+    }
+
+    // What a lookup answered.
+    fn write_lookup(self, key: &Key, out: &mut String) -> Result<(), AllocError> {
+        match self.get(key) {
+            Ok(lookup) => match lookup.found {
+                Found::Node(table, _) => lookup.write(self.image(table), out),
+                _ => lookup.write(&[], out),
+            },
+            Err(refused) => write!(out, "{refused}"),
         }
     }
 
-    // The value that a lookup found, or that there is none, or its refusal.
-    fn write_row(self, r: BavoPairLookup, out: &mut String) -> Result<(), AllocError> {
-        let lookup = Lookup::from(r);
-        let image = self.image(lookup.table);
-        match lookup {
-            Lookup {
-                refusal: 0,
-                answer: 1,
-                node,
-                ..
-            } => {
-                write!(
-                    out,
-                    "{}",
-                    View {
-                        image,
-                        view: bavo_value(image, node)
-                    }
-                )
+    // The value that a lookup found, or that there is none.
+    fn write_row(self, key: &Key, out: &mut String) -> Result<(), AllocError> {
+        match self.get(key) {
+            Ok(
+                Lookup {
+                    found: Found::Node(table, node),
+                    ..
+                },
+            ) => {
+                let image = self.image(table);
+                write!(out, "{}", View::new(image, bavo_value(image, node)))
             }
-            Lookup { refusal: 0, .. } => out.push_str("none"),
-            _ => lookup.write(image, out),
+            Ok(_) => out.push_str("none"),
+            Err(refused) => write!(out, "{refused}"),
         }
     }
 
@@ -112,27 +113,8 @@ fn snapshot(s: &[u8]) -> Result<u64, NoLine> {
     number(s.strip_prefix(b"@").ok_or(NoLine)?)
 }
 
-// The moves.
-fn moved(
-    alloc: Global,
-    words: &[&[u8]],
-    Pair { first, second }: Pair<'_>,
-    at: BavoCursor,
-) -> Result<Option<BavoMoved>, Trouble> {
-    Ok(match words {
-        [b"first", n] => Some(bavo_first(first, second, snapshot(n)?, at)),
-        [b"seek", key] => {
-            let key = Key::new(alloc, key)?;
-            Some(bavo_seek(first, second, key.number, at, key.bytes.as_slice()))
-        }
-        [b"next", n] => Some(bavo_next(first, second, snapshot(n)?, at)),
-        [b"prev", n] => Some(bavo_prev(first, second, snapshot(n)?, at)),
-        _ => None,
-    })
-}
-
 // Takes the visible cursor where a move led, and writes that.
-fn go(state: &mut State, r: BavoMoved, out: &mut String) -> Result<(), AllocError> {
+fn go(r: BavoMoved, state: &mut State, out: &mut String) -> Result<(), AllocError> {
     let at = BavoCursor {
         table: r.table,
         node: r.node,
@@ -150,16 +132,18 @@ pub fn ask(
 ) -> Result<(), Trouble> {
     let at = state.cursor;
     let pair = Pair::of(state);
-    if let Some(r) = moved(alloc, words, pair, at)? {
-        return Ok(go(state, r, out)?);
-    }
     let Pair { first, second } = pair;
     match words {
-        [b"pair_get", key] => {
-            let lookup = Lookup::from(pair.get(&Key::new(alloc, key)?));
-            lookup.write(pair.image(lookup.table), out)?
+        [b"pair_get", key] => pair.write_lookup(&Key::new(alloc, key)?, out)?,
+        [b"row", key] => pair.write_row(&Key::new(alloc, key)?, out)?,
+        [b"first", n] => go(bavo_first(first, second, snapshot(n)?, at), state, out)?,
+        [b"seek", key] => {
+            let key = Key::new(alloc, key)?;
+            let r = bavo_seek(first, second, key.number, at, key.bytes.as_slice());
+            go(r, state, out)?
         }
-        [b"row", key] => pair.write_row(pair.get(&Key::new(alloc, key)?), out)?,
+        [b"next", n] => go(bavo_next(first, second, snapshot(n)?, at), state, out)?,
+        [b"prev", n] => go(bavo_prev(first, second, snapshot(n)?, at), state, out)?,
         [b"row_key"] => pair.write_view(bavo_row_key(first, second, at), out)?,
         [b"row_value"] => pair.write_view(bavo_row_value(first, second, at), out)?,
         [b"row_refusal"] => write!(out, "{}", bavo_row_refusal(first, second, at))?,

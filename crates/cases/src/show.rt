@@ -1,4 +1,6 @@
 // Answers in words.
+ghost use Rattle.std.specs.Prelude.{◌≡◌, length, IfSome};
+
 use crate::given::is_plain;
 use crate::tables::Table;
 use capi::db_iter::BavoMoved;
@@ -11,7 +13,9 @@ use std::fmt;
 const LONG: usize = 16;
 
 // A part of some bytes, if they have it.
-pub fn part(s: &[u8], from: usize, len: usize) -> Option<&[u8]> {
+pub fn part(s: &[u8], from: usize, len: usize) -> Option<&[u8]>
+    ensures { IfSome result (λ p. length p.now ≡ len) }
+{
     s.get(from..)?.get(..len)
 }
 
@@ -50,17 +54,7 @@ impl fmt::Display for Bytes<'_> {
     }
 }
 
-// A refused call, by the refusal's number.
-#[derive(Clone, Copy, Debug)]
-pub struct Refused(pub u32);
-
-impl fmt::Display for Refused {
-    fn fmt<W: fmt::Write>(&self, f: &mut fmt::Formatter<W>) -> fmt::Result {
-        write!(f, "refused {}", self.0)
-    }
-}
-
-// Which table something is in, where it is not plain.
+// Which table something is in, where a call is over both.
 #[derive(Clone, Copy, Debug)]
 pub struct Within(pub Option<Table>);
 
@@ -73,89 +67,115 @@ impl fmt::Display for Within {
     }
 }
 
-// The bytes of a view in its image, or its refusal.
+// A refused call, by the refusal's number.
+#[derive(Clone, Copy, Debug, PartialEq, Eq)]
+pub struct Refused(u32);
+
+impl Refused {
+    // C's number of a refusal: 0 is none.
+    pub fn unless_zero(refusal: u32) -> Result<(), Refused> {
+        match refusal {
+            0 => Ok(()),
+            _ => Err(Refused(refusal)),
+        }
+    }
+}
+
+impl fmt::Display for Refused {
+    fn fmt<W: fmt::Write>(&self, f: &mut fmt::Formatter<W>) -> fmt::Result {
+        write!(f, "refused {}", self.0)
+    }
+}
+
+// A view and its image.
 #[derive(Clone, Copy)]
 pub struct View<'a> {
-    pub image: &'a [u8],
-    pub view: BavoView,
+    image: &'a [u8],
+    view: BavoView,
+}
+
+impl<'a> View<'a> {
+    pub fn new(image: &'a [u8], view: BavoView) -> View<'a> {
+        View { image, view }
+    }
+
+    // The bytes that it shows.
+    fn bytes(self) -> Result<Bytes<'a>, Refused> {
+        Refused::unless_zero(self.view.refusal)?;
+        let bytes = part(self.image, self.view.offset, self.view.length);
+        Ok(Bytes(bytes.unwrap_or(&[])))
+    }
+
+    // Writes them with the place where they stand.
+    pub fn write_at(self, table: Option<Table>, out: &mut String) -> Result<(), AllocError> {
+        match self.bytes() {
+            Ok(bytes) => write!(out, "{bytes}{} at {}", Within(table), self.view.offset),
+            Err(refused) => write!(out, "{refused}"),
+        }
+    }
 }
 
 impl fmt::Display for View<'_> {
     fn fmt<W: fmt::Write>(&self, f: &mut fmt::Formatter<W>) -> fmt::Result {
-        let BavoView {
-            refusal,
-            offset,
-            length,
-        } = self.view;
-        if refusal != 0 {
-            return write!(f, "{}", Refused(refusal));
+        match self.bytes() {
+            Ok(bytes) => write!(f, "{bytes}"),
+            Err(refused) => write!(f, "{refused}"),
         }
-        write!(
-            f,
-            "{}",
-            Bytes(part(self.image, offset, length).unwrap_or(&[]))
-        )
     }
 }
 
-impl View<'_> {
-    // Writes the view with the place where the bytes stand.
-    pub fn write_at(self, table: Option<Table>, out: &mut String) -> Result<(), AllocError> {
-        write!(out, "{self}")?;
-        if self.view.refusal != 0 {
-            return Ok(());
+// What a lookup came to; in a pair, the node is in a table.
+#[derive(Clone, Copy, Debug, PartialEq, Eq)]
+pub enum Found {
+    Absent,
+    Deleted,
+    Node(Option<Table>, usize),
+}
+
+impl Found {
+    // By C's number of an answer: 0 absent, 1 found, 2 deleted.
+    pub fn numbered(answer: u32, table: Option<Table>, node: usize) -> Found {
+        match answer {
+            0 => Found::Absent,
+            1 => Found::Node(table, node),
+            _ => Found::Deleted,
         }
-        write!(out, "{} at {}", Within(table), self.view.offset)
     }
 }
 
-// What a lookup in one table, or in a pair, answered: 0 absent, 1 found, 2 deleted.
-#[derive(Clone, Copy)]
+// What a lookup answered.
+#[derive(Clone, Copy, Debug, PartialEq, Eq)]
 pub struct Lookup {
-    pub refusal: u32,
-    pub answer: u32,
-    pub table: Option<Table>,
-    pub node: usize,
+    pub found: Found,
     pub looks: usize,
 }
 
 impl Lookup {
     // Writes the answer; the image is that of the found node.
     pub fn write(self, image: &[u8], out: &mut String) -> Result<(), AllocError> {
-        if self.refusal != 0 {
-            return write!(out, "{}", Refused(self.refusal));
-        }
-        match self.answer {
-            0 => out.push_str("absent")?,
-            1 => self.write_found(image, out)?,
-            _ => out.push_str("deleted")?,
+        match self.found {
+            Found::Absent => out.push_str("absent")?,
+            Found::Deleted => out.push_str("deleted")?,
+            Found::Node(table, node) => {
+                let value = View::new(image, bavo_value(image, node));
+                write!(out, "found {value}{} node {node}", Within(table))?
+            }
         }
         write!(out, " looks {}", self.looks)
-    }
-
-    // The value and the place of the found node.
-    fn write_found(self, image: &[u8], out: &mut String) -> Result<(), AllocError> {
-        let view = bavo_value(image, self.node);
-        write!(out, "found {}", View { image, view })?;
-        write!(out, "{} node {}", Within(self.table), self.node)
     }
 }
 
 // Whether an entry is held.
 pub fn presence(r: BavoPresence, out: &mut String) -> Result<(), AllocError> {
-    if r.refusal != 0 {
-        return write!(out, "{}", Refused(r.refusal));
+    if let Err(refused) = Refused::unless_zero(r.refusal) {
+        return write!(out, "{refused}");
     }
-    write!(
-        out,
-        "{} looks {}",
-        if r.held == 1 { "held" } else { "not held" },
-        r.looks
-    )
+    let held = if r.held == 1 { "held" } else { "not held" };
+    write!(out, "{held} looks {}", r.looks)
 }
 
-// Where a move led; a refused one hands back the cursor as it was.
-#[derive(Clone, Copy)]
+// What a move of either cursor answered: a refusal's number, and the cursor in C's two numbers. Refused, it is the one that was handed.
+#[derive(Clone, Copy, Debug)]
 pub struct Moved {
     refusal: u32,
     on: u32,
@@ -183,26 +203,17 @@ impl From<BavoEntryMoved> for Moved {
 }
 
 impl Moved {
-    // Writes where the move led; what stands there is written by the one who knows it.
-    pub fn write<F: FnOnce(&mut String) -> Result<(), AllocError>>(
-        self,
-        out: &mut String,
-        write_there: F,
-    ) -> Result<(), AllocError>
+    // Writes where the move led; what stands there, the one who moved the cursor writes.
+    pub fn write<F>(self, out: &mut String, write_there: F) -> Result<(), AllocError>
+    where
+        F: FnOnce(&mut String) -> Result<(), AllocError>,
         requires { F.IsAlwaysCallable write_there }
     {
-        if self.refusal != 0 {
-            return write!(
-                out,
-                "{} back {} {}",
-                Refused(self.refusal),
-                self.on,
-                self.node
-            );
+        let Moved { refusal, on, node } = self;
+        match Refused::unless_zero(refusal) {
+            Err(refused) => write!(out, "{refused} back {on} {node}"),
+            Ok(()) if on == 0 => out.push_str("nowhere"),
+            Ok(()) => write_there(out),
         }
-        if self.on == 0 {
-            return out.push_str("nowhere");
-        }
-        write_there(out)
     }
 }

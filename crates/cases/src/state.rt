@@ -87,6 +87,7 @@ impl State {
             ..
         } = self;
         *wrote = table;
+        // an element is lent beside `before` only through a & to the array
         let memories = &*memories;
         let image = memories[table as usize].image.as_slice();
         for (kept, byte) in before.iter_mut().zip(image) {

@@ -21,30 +21,26 @@ const SOURCES: [Source; 5] = [
     Source::LevelDb,
 ];
 
-impl TryFrom<&[u8]> for Source {
-    type Error = NoLine;
-
-    fn try_from(name: &[u8]) -> Result<Source, NoLine> {
-        match name {
-            b"document" => Ok(Source::Document),
-            b"set-up" => Ok(Source::SetUp),
-            b"model" => Ok(Source::Model),
-            b"crate" => Ok(Source::Crate),
-            b"leveldb" => Ok(Source::LevelDb),
-            _ => Err(NoLine),
-        }
-    }
-}
-
-impl fmt::Display for Source {
-    fn fmt<W: fmt::Write>(&self, f: &mut fmt::Formatter<W>) -> fmt::Result {
-        f.write_str(match self {
+impl Source {
+    fn name(self) -> &'static str {
+        match self {
             Source::Document => "document",
             Source::SetUp => "set-up",
             Source::Model => "model",
             Source::Crate => "crate",
             Source::LevelDb => "leveldb",
-        })
+        }
+    }
+}
+
+impl TryFrom<&[u8]> for Source {
+    type Error = NoLine;
+
+    fn try_from(name: &[u8]) -> Result<Source, NoLine> {
+        let mut sources = SOURCES.into_iter();
+        sources
+            .find(|source| source.name().as_bytes() == name)
+            .ok_or(NoLine)
     }
 }
 
@@ -79,7 +75,7 @@ impl fmt::Display for Tally {
     fn fmt<W: fmt::Write>(&self, f: &mut fmt::Formatter<W>) -> fmt::Result {
         for source in SOURCES {
             let Count { asked, right } = self.counts[source as usize];
-            write!(f, "{source}: {right} of {asked} answers\n")?;
+            write!(f, "{}: {right} of {asked} answers\n", source.name())?;
         }
         if self.wrong > 0 {
             write!(f, "NOT ")?;

@@ -9,9 +9,9 @@ use capi::memtable::{BavoAdded, bavo_add, bavo_fresh};
 use std::alloc::{AllocError, Global};
 
 // A refused call, which is to keep every byte.
-fn refused(refusal: u32, state: &State, out: &mut String) -> Result<(), AllocError> {
+fn write_refused(refused: Refused, state: &State, out: &mut String) -> Result<(), AllocError> {
     let (image, before) = state.written();
-    write!(out, "{}", Refused(refusal))?;
+    write!(out, "{refused}")?;
     if before.starts_with(image) {
         return Ok(());
     }
@@ -22,10 +22,10 @@ fn refused(refusal: u32, state: &State, out: &mut String) -> Result<(), AllocErr
 pub fn fresh(table: Table, state: &mut State, out: &mut String) -> Result<(), AllocError> {
     state.keep(table);
     let refusal = bavo_fresh(state.memory_mut(table).image.as_mut_slice());
-    if refusal != 0 {
-        return refused(refusal, state, out);
+    match Refused::unless_zero(refusal) {
+        Ok(()) => out.push_str("done"),
+        Err(refused) => write_refused(refused, state, out),
     }
-    out.push_str("done")
 }
 
 // Adds an entry; the last word is h and the height.
@@ -56,10 +56,11 @@ pub fn add(
     state.keep(table);
     let image = state.memory_mut(table).image.as_mut_slice();
     let r = added(alloc, entry, tall, image)?;
-    if r.refusal != 0 {
-        return Ok(refused(r.refusal, state, out)?);
+    match Refused::unless_zero(r.refusal) {
+        Ok(()) => write!(out, "node {}", r.node)?,
+        Err(refused) => write_refused(refused, state, out)?,
     }
-    Ok(write!(out, "node {}", r.node)?)
+    Ok(())
 }
 
 // So many bytes, all the one that is given in hexadecimal.
