@@ -5,14 +5,14 @@ use crate::trouble::{NoLine, Trouble};
 use std::alloc::Global;
 
 // A key with a number.
-#[derive(Drop)]
+#[derive(Debug, Drop)]
 pub struct Key {
     pub bytes: Vec<u8>,
     pub number: u64,
 }
 
 // An entry; its value as the text gives it.
-#[derive(Drop)]
+#[derive(Debug, Drop)]
 pub struct Entry<'a> {
     pub key: Key,
     pub kind: u8,
@@ -53,6 +53,7 @@ impl Key {
 }
 
 impl<'a> Entry<'a> {
+    // An entry, which has a type.
     pub fn new(alloc: Global, s: &'a [u8]) -> Result<Entry<'a>, Trouble> {
         let (key, typed) = read_key(alloc, s)?;
         let (kind, value) = match typed {

@@ -1,7 +1,8 @@
 // The calls on the entry cursor of one table.
+use crate::answers::Moved;
 use crate::entry::Key;
 use crate::one_table;
-use crate::show::{Moved, View};
+use crate::show::View;
 use crate::state::Memory;
 use crate::trouble::Trouble;
 use capi::entry_iter::{

@@ -9,7 +9,7 @@ use capi::db_iter::BavoCursor;
 use capi::entry_iter::BavoEntryCursor;
 use std::alloc::Global;
 
-// The lines whose second word is a table.
+// The lines about one table, which their second word names.
 fn follow_on(
     alloc: Global,
     words: &[&[u8]],
@@ -41,6 +41,7 @@ pub fn follow(
     state: &mut State,
     out: &mut String,
 ) -> Result<(), Trouble> {
+    // No other line has a table's name there.
     if let [_, name, ..] = words
         && let Ok(table) = Table::try_from(*name)
     {

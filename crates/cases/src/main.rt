@@ -3,6 +3,7 @@
 // end how many were as expected.
 #![tactic(auto)]
 
+mod answers; // answers.rt: what C's structs answer, in words
 mod changes; // changes.rt: which bytes a call changed
 mod entry; // entry.rt: an entry as document 01 writes it
 mod entry_cursor; // entry_cursor.rt: the calls on the entry cursor
@@ -10,7 +11,7 @@ mod given; // given.rt: numbers and bytes as a line gives them
 mod lines; // lines.rt: what a line asks for
 mod one_table; // one_table.rt: the calls on one table
 mod pair; // pair.rt: the calls over both tables
-mod show; // show.rt: answers in words
+mod show; // show.rt: bytes, tables, refusals and views in words
 mod state; // state.rt: what lines carry from one to the next
 mod tables; // tables.rt: the two tables by name
 mod tally; // tally.rt: how many answers were as expected

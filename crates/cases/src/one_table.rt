@@ -1,25 +1,14 @@
 // The questions to one table, but for those to its entry cursor.
+use crate::answers;
+use crate::answers::Lookup;
 use crate::entry::{Entry, Key};
 use crate::given::number;
-use crate::show;
-use crate::show::{Found, Hex, Lookup, Refused, View, part};
+use crate::show::{Hex, View, part};
 use crate::trouble::{NoLine, Trouble};
 use capi::memtable::{
-    BavoLookup, bavo_check, bavo_contains, bavo_get, bavo_get_value, bavo_value, bavo_value_refusal,
+    bavo_check, bavo_contains, bavo_get, bavo_get_value, bavo_value, bavo_value_refusal,
 };
 use std::alloc::{AllocError, Global};
-
-impl TryFrom<BavoLookup> for Lookup {
-    type Error = Refused;
-
-    fn try_from(r: BavoLookup) -> Result<Lookup, Refused> {
-        Refused::unless_zero(r.refusal)?;
-        Ok(Lookup {
-            found: Found::numbered(r.answer, None, r.node),
-            looks: r.looks,
-        })
-    }
-}
 
 // So many bytes of the image from a place on, four to a group.
 fn bytes(image: &[u8], from: usize, len: usize, out: &mut String) -> Result<(), Trouble> {
@@ -52,17 +41,15 @@ fn contains(image: &[u8], entry: &Entry<'_>, out: &mut String) -> Result<(), Tro
     }
     let key = entry.key.bytes.as_slice();
     let r = bavo_contains(image, key, entry.key.number, entry.kind);
-    Ok(show::presence(r, out)?)
+    Ok(answers::presence(r, out)?)
 }
 
+// What a line asks of the table with this image.
 pub fn ask(alloc: Global, words: &[&[u8]], image: &[u8], out: &mut String) -> Result<(), Trouble> {
     match words {
         [b"bytes", _, from, len] => bytes(image, number(from)?, number(len)?, out)?,
-        [b"check", _] => out.push_str(if bavo_check(image) {
-            "sound"
-        } else {
-            "not sound"
-        })?,
+        [b"check", _] if bavo_check(image) => out.push_str("sound")?,
+        [b"check", _] => out.push_str("not sound")?,
         [b"get", _, key] => get(image, &Key::new(alloc, key)?, out)?,
         [b"get_value", _, key] => {
             let key = Key::new(alloc, key)?;

@@ -1,29 +1,17 @@
 // The calls over both tables: the lookup in a pair, the moves of the visible cursor, its views.
+use crate::answers::{Found, Lookup, Moved};
 use crate::entry::Key;
 use crate::given::number;
-use crate::show::{Found, Lookup, Moved, Refused, View, Within};
+use crate::show::{Refused, View, Within};
 use crate::state::State;
 use crate::tables::Table;
 use crate::trouble::{NoLine, Trouble};
 use capi::db_iter::{
-    BavoCursor, BavoMoved, BavoPairLookup, bavo_first, bavo_next, bavo_pair_get, bavo_prev,
-    bavo_seek,
+    BavoCursor, BavoMoved, bavo_first, bavo_next, bavo_pair_get, bavo_prev, bavo_seek,
 };
 use capi::memtable::{BavoView, bavo_value};
 use capi::row_views::{BavoRowView, bavo_row_key, bavo_row_refusal, bavo_row_value};
 use std::alloc::{AllocError, Global};
-
-impl TryFrom<BavoPairLookup> for Lookup {
-    type Error = Refused;
-
-    fn try_from(r: BavoPairLookup) -> Result<Lookup, Refused> {
-        Refused::unless_zero(r.refusal)?;
-        Ok(Lookup {
-            found: Found::numbered(r.answer, Table::numbered(r.table), r.node),
-            looks: r.looks,
-        })
-    }
-}
 
 // The images of both tables.
 #[derive(Clone, Copy)]
@@ -59,30 +47,23 @@ impl<'a> Pair<'a> {
         View::new(image, view)
     }
 
+    // A lookup in the pair.
     fn get(self, key: &Key) -> Result<Lookup, Refused> {
         Lookup::try_from(bavo_pair_get(self.first, self.second, key.bytes.as_slice(), key.number))
     }
 
-    // What a lookup answered.
+    // What it answered.
     fn write_lookup(self, key: &Key, out: &mut String) -> Result<(), AllocError> {
         match self.get(key) {
-            Ok(lookup) => match lookup.found {
-                Found::Node(table, _) => lookup.write(self.image(table), out),
-                _ => lookup.write(&[], out),
-            },
+            Ok(lookup) => lookup.write(self.image(lookup.table()), out),
             Err(refused) => write!(out, "{refused}"),
         }
     }
 
     // The value that a lookup found, or that there is none.
     fn write_row(self, key: &Key, out: &mut String) -> Result<(), AllocError> {
-        match self.get(key) {
-            Ok(
-                Lookup {
-                    found: Found::Node(table, node),
-                    ..
-                },
-            ) => {
+        match self.get(key).map(|lookup| lookup.found) {
+            Ok(Found::Node(table, node)) => {
                 let image = self.image(table);
                 write!(out, "{}", View::new(image, bavo_value(image, node)))
             }
@@ -101,10 +82,10 @@ impl<'a> Pair<'a> {
 
     // A view with its table, or that it is nowhere.
     fn write_view(self, v: BavoRowView, out: &mut String) -> Result<(), AllocError> {
-        if v.refusal == 0 && v.table == 0 {
-            return out.push_str("\"\" nowhere");
+        match Table::numbered(v.table) {
+            None if v.refusal == 0 => out.push_str("\"\" nowhere"),
+            table => self.view(v).write_at(table, out),
         }
-        self.view(v).write_at(Table::numbered(v.table), out)
     }
 }
 
@@ -124,6 +105,7 @@ fn go(r: BavoMoved, state: &mut State, out: &mut String) -> Result<(), AllocErro
     Moved::from(r).write(out, |out| pair.write_row_at(at, out))
 }
 
+// What a line asks of both tables.
 pub fn ask(
     alloc: Global,
     words: &[&[u8]],

@@ -1,4 +1,6 @@
 // What lines carry from one to the next.
+ghost use Rattle.std.specs.Prelude.{◌≡◌, OnOk, vec_len};
+
 use crate::tables::Table;
 use crate::tally::Source;
 use crate::trouble::Trouble;
@@ -17,6 +19,7 @@ pub struct Memory {
 }
 
 impl Memory {
+    // No bytes, and the cursor nowhere.
     fn new(alloc: Global) -> Memory {
         Memory {
             image: Vec::new(alloc),
@@ -25,7 +28,9 @@ impl Memory {
     }
 
     // Lends the memory anew, all bytes the same.
-    pub fn lend(&mut self, len: usize, with: u8) -> Result<(), Trouble> {
+    pub fn lend(&mut self, len: usize, with: u8) -> Result<(), Trouble>
+        ensures { OnOk result (vec_len self.new.image ≡ len) }
+    {
         if len > SIZE {
             return Err(Trouble::NoLine);
         }
@@ -52,6 +57,7 @@ pub struct State {
 }
 
 impl State {
+    // As before the first line.
     pub fn new(alloc: Global) -> Result<State, AllocError> {
         Ok(State {
             memories: [Memory::new(alloc), Memory::new(alloc)],
@@ -87,7 +93,7 @@ impl State {
             ..
         } = self;
         *wrote = table;
-        // an element is lent beside `before` only through a & to the array
+        // A memory is lent beside `before` only through a & to them all.
         let memories = &*memories;
         let image = memories[table as usize].image.as_slice();
         for (kept, byte) in before.iter_mut().zip(image) {

@@ -22,6 +22,7 @@ const SOURCES: [Source; 5] = [
 ];
 
 impl Source {
+    // As lines name it.
     fn name(self) -> &'static str {
         match self {
             Source::Document => "document",
@@ -37,8 +38,8 @@ impl TryFrom<&[u8]> for Source {
     type Error = NoLine;
 
     fn try_from(name: &[u8]) -> Result<Source, NoLine> {
-        let mut sources = SOURCES.into_iter();
-        sources
+        SOURCES
+            .into_iter()
             .find(|source| source.name().as_bytes() == name)
             .ok_or(NoLine)
     }
