@@ -96,8 +96,8 @@ impl State {
         // A memory is lent beside `before` only through a & to them all.
         let memories = &*memories;
         let image = memories[table as usize].image.as_slice();
-        for (kept, byte) in before.iter_mut().zip(image) {
-            *kept = *byte;
+        if let Some(kept) = before.as_mut_slice().get_mut(..image.len()) {
+            kept.copy_from_slice(image);
         }
     }
 

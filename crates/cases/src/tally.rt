@@ -76,11 +76,11 @@ impl fmt::Display for Tally {
     fn fmt<W: fmt::Write>(&self, f: &mut fmt::Formatter<W>) -> fmt::Result {
         for source in SOURCES {
             let Count { asked, right } = self.counts[source as usize];
-            write!(f, "{}: {right} of {asked} answers\n", source.name())?;
+            writeln!(f, "{}: {right} of {asked} answers", source.name())?;
         }
         if self.wrong > 0 {
             write!(f, "NOT ")?;
         }
-        write!(f, "all as expected\n")
+        writeln!(f, "all as expected")
     }
 }
