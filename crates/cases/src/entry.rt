@@ -4,6 +4,11 @@ use crate::given::{bytes, number};
 use crate::trouble::{NoLine, Trouble};
 use std::alloc::Global;
 
+// The two types that a table knows. They are numbers and no enum, since a line may hand C any other.
+pub const DELETION: u8 = 0;
+
+pub const VALUE: u8 = 1;
+
 // A key with a number.
 #[derive(Debug, Drop)]
 pub struct Key {
@@ -57,8 +62,8 @@ impl<'a> Entry<'a> {
     pub fn new(alloc: Global, s: &'a [u8]) -> Result<Entry<'a>, Trouble> {
         let (key, typed) = read_key(alloc, s)?;
         let (kind, value) = match typed {
-            [b'=', value @ ..] => (1, value),
-            [b'-', value @ ..] => (0, value),
+            [b'=', value @ ..] => (VALUE, value),
+            [b'-', value @ ..] => (DELETION, value),
             [b'~', typed @ ..] => numbered(typed)?,
             _ => return Err(Trouble::NoLine),
         };

@@ -1,6 +1,6 @@
 // The calls on the entry cursor of one table.
 use crate::answers::Moved;
-use crate::entry::Key;
+use crate::entry::{DELETION, Key, VALUE};
 use crate::one_table;
 use crate::show::View;
 use crate::state::Memory;
@@ -18,9 +18,9 @@ fn write_entry(image: &[u8], at: BavoEntryCursor, out: &mut String) -> Result<()
     let number = bavo_entry_number(image, at);
     let kind = bavo_entry_kind(image, at);
     let value = bavo_entry_value(image, at);
-    let mark = if kind == 1 { '=' } else { '-' };
+    let mark = if kind == VALUE { '=' } else { '-' };
     write!(out, "{key}@{number}{mark}")?;
-    if kind != 0 || value.length > 0 {
+    if kind != DELETION || value.length > 0 {
         write!(out, "{}", View::new(image, value))?;
     }
     write!(out, " node {}", at.node)
