@@ -1,46 +1,27 @@
 // Which bytes differ between an image and what it was.
-use crate::put;
-use crate::text::byte;
+use std::alloc::{AllocError, Global};
 
-fn differs(a: &[u8], b: &[u8], i: usize) -> bool {
-    byte(a, i) != byte(b, i)
-}
-
-// Whether a stretch of bytes that differ begins at i.
-fn begins(a: &[u8], b: &[u8], i: usize) -> bool {
-    if i < 1 {
-        return true;
+// Writes all stretches of bytes that differ, or that there is none.
+pub fn all(alloc: Global, image: &[u8], before: &[u8], out: &mut String) -> Result<(), AllocError> {
+    let places: Vec<usize> = image
+        .iter()
+        .zip(before)
+        .enumerate()
+        .filter(|(_, (byte, was))| byte != was)
+        .map(|(i, _)| i)
+        .collect(alloc)?;
+    if places.is_empty() {
+        return out.push_str("nothing");
     }
-    !differs(a, b, i - 1)
-}
-
-// Writes the byte at i where a stretch begins, and - and the byte where a longer one ends.
-fn mark(out: &mut [u8; 4200], at: usize, a: &[u8], b: &[u8], i: usize, next: usize) -> usize {
-    if !differs(a, b, i) {
-        return at;
-    }
-    if begins(a, b, i) {
-        if at < 1 {
-            return put::counted(out, at, b"", i);
+    for stretch in places.chunk_by(|i, next| i.checked_add(1) == Some(*next)) {
+        if !out.is_empty() {
+            out.push(' ')?;
         }
-        return put::counted(out, at, b" ", i);
+        match stretch {
+            [] => {}
+            [only] => write!(out, "{only}")?,
+            [first, .., last] => write!(out, "{first}-{last}")?,
+        }
     }
-    if differs(a, b, next) {
-        return at;
-    }
-    put::counted(out, at, b"-", i)
-}
-
-// Writes all stretches, or that there is none.
-pub fn all(out: &mut [u8; 4200], a: &[u8], b: &[u8]) -> usize {
-    let mut end = 0;
-    let mut i = 0;
-    while i < a.len() {
-        end = mark(out, end, a, b, i, i + 1);
-        i += 1;
-    }
-    if end < 1 {
-        return put::text(out, 0, b"nothing");
-    }
-    end
+    Ok(())
 }

@@ -1,69 +1,85 @@
 // An entry as document 01 writes it: a@1=x a value, a@3-z a deletion that carries z, a@1~2=x one of type 2; and a key with a number
 // or a snapshot, a@3.
-use crate::given::{Taken, bytes, digits, number};
-use crate::text::{after, before, byte, part, rest};
+use crate::given::{bytes, number};
+use crate::trouble::{NoLine, Trouble};
+use std::alloc::Global;
 
-// What a word asks for, if it is well formed: how many bytes the key has, number and type.
-#[derive(Drop)]
-pub struct Wanted {
-    pub formed: bool,
-    pub len: usize,
+// The two types that a table knows. They are numbers and no enum, since a line may hand C any other.
+pub const DELETION: u8 = 0;
+
+pub const VALUE: u8 = 1;
+
+// A key with a number.
+#[derive(Debug, Drop)]
+pub struct Key {
+    pub bytes: Vec<u8>,
     pub number: u64,
+}
+
+// An entry; its value as the text gives it.
+#[derive(Debug, Drop)]
+pub struct Entry<'a> {
+    pub key: Key,
     pub kind: u8,
+    value: &'a [u8],
 }
 
-// From the type on.
-fn typed(s: &[u8]) -> &[u8] {
-    let t = after(s, b'@');
-    rest(t, digits(t))
+// The text up to the first byte that is the mark, and what stands behind that, if it is there.
+fn cut(s: &[u8], mark: u8) -> (&[u8], Option<&[u8]>) {
+    let mut parts = s.splitn(2, |b| *b == mark);
+    (parts.next().unwrap_or(s), parts.next())
 }
 
-// What stands behind the type.
-pub fn value_text(s: &[u8]) -> &[u8] {
-    let t = typed(s);
-    if byte(t, 0) == b'~' {
-        return after(t, b'=');
-    }
-    rest(t, 1)
+// The key at the front of a text, and what stands behind its number.
+fn read_key(alloc: Global, s: &[u8]) -> Result<(Key, &[u8]), Trouble> {
+    let (front, behind) = cut(s, b'@');
+    let behind = behind.ok_or(NoLine)?;
+    let len = behind.iter().take_while(|b| b.is_ascii_digit()).count();
+    let (digits, typed) = behind.split_at(len);
+    let bytes = bytes(alloc, front)?;
+    let number = number(digits)?;
+    Ok((Key { bytes, number }, typed))
 }
 
-// The value; nothing behind the type is the empty one.
-pub fn value(s: &[u8], out: &mut [u8; 4200]) -> Taken {
-    let v = value_text(s);
-    if v.len() < 1 {
-        return bytes(b"\"\"", out);
-    }
-    bytes(v, out)
+// The type that is written behind ~, and the value.
+fn numbered(s: &[u8]) -> Result<(u8, &[u8]), NoLine> {
+    let (kind, value) = cut(s, b'=');
+    Ok((number(kind)?, value.unwrap_or(&[])))
 }
 
-// The type that is written behind ~, or more than a type can be.
-fn kind_number(t: &[u8]) -> u64 {
-    let k = number(before(rest(t, 1), b'='));
-    if k.formed { k.value } else { 256 }
-}
-
-// The type by its mark, or more than a type can be.
-fn kind(t: &[u8]) -> u64 {
-    match byte(t, 0) {
-        b'=' => 1,
-        b'-' => 0,
-        b'~' => kind_number(t),
-        _ => 256,
+impl Key {
+    // A key with a number and no more.
+    pub fn new(alloc: Global, s: &[u8]) -> Result<Key, Trouble> {
+        match read_key(alloc, s)? {
+            (key, []) => Ok(key),
+            _ => Err(Trouble::NoLine),
+        }
     }
 }
 
-// A key with a number, and with a type where one is to be there.
-pub fn asked(s: &[u8], with_kind: bool, out: &mut [u8; 4200]) -> Wanted {
-    let key = bytes(before(s, b'@'), out);
-    let t = after(s, b'@');
-    let n = number(part(t, 0, digits(t)));
-    let k = kind(typed(s));
-    let bare = typed(s).len() < 1;
-    let fits = (k < 256) == with_kind;
-    Wanted {
-        formed: key.formed & n.formed & fits & (bare != with_kind),
-        len: key.len,
-        number: n.value,
-        kind: if k < 256 { k as u8 } else { 0 },
+impl<'a> Entry<'a> {
+    // An entry, which has a type.
+    pub fn new(alloc: Global, s: &'a [u8]) -> Result<Entry<'a>, Trouble> {
+        let (key, typed) = read_key(alloc, s)?;
+        let (kind, value) = match typed {
+            [b'=', value @ ..] => (VALUE, value),
+            [b'-', value @ ..] => (DELETION, value),
+            [b'~', typed @ ..] => numbered(typed)?,
+            _ => return Err(Trouble::NoLine),
+        };
+        Ok(Entry { key, kind, value })
+    }
+
+    // Whether nothing stands behind the type.
+    pub fn is_bare(&self) -> bool {
+        self.value.is_empty()
+    }
+
+    // The value; nothing behind the type is the empty one.
+    pub fn value(&self, alloc: Global) -> Result<Vec<u8>, Trouble> {
+        if self.is_bare() {
+            return Ok(Vec::new(alloc));
+        }
+        bytes(alloc, self.value)
     }
 }

@@ -3,173 +3,135 @@
 // end how many were as expected.
 #![tactic(auto)]
 
+mod answers; // answers.rt: what C's structs answer, in words
 mod changes; // changes.rt: which bytes a call changed
 mod entry; // entry.rt: an entry as document 01 writes it
 mod entry_cursor; // entry_cursor.rt: the calls on the entry cursor
 mod given; // given.rt: numbers and bytes as a line gives them
 mod lines; // lines.rt: what a line asks for
-mod memory; // memory.rt: writing into the memories
 mod one_table; // one_table.rt: the calls on one table
-mod ops; // ops.rt: the words that a line begins with
 mod pair; // pair.rt: the calls over both tables
-mod put; // put.rt: writing into a line
-mod show; // show.rt: answers in words
+mod show; // show.rt: bytes, tables, refusals and views in words
 mod state; // state.rt: what lines carry from one to the next
+mod tables; // tables.rt: the two tables by name
 mod tally; // tally.rt: how many answers were as expected
-mod text; // text.rt: parts and words of a text
+mod trouble; // trouble.rt: why a line has no answer
 mod writes; // writes.rt: what writes to a table's memory
 
-ghost use Rattle.std.specs.Prelude.{◌≡◌, ◌<◌, ◌≤◌, length, IfOk};
+ghost use Rattle.std.specs.Prelude.{◌≤◌, length};
 
-use crate::state::UNCLEAR;
-use crate::text::{arrow, begins, byte, find, front, part, rest, same};
+use crate::state::State;
+use crate::tally::Tally;
+use crate::trouble::Trouble;
+use std::alloc::{AllocError, Global};
 use std::io;
 use std::io::{Read, Write};
 
+// A text has fewer bytes than this.
+const TOO_LONG: usize = 524288;
+
+// No more of an answer is compared and written: the longest value, 4,096 bytes, and some words.
+const LONGEST_ANSWER: usize = 4200;
+
+const ARROW: &[u8] = b" -> ";
+
 // Whether an answer is the expected one. Behind two dots at its end an expectation says nothing.
 fn holds(expected: &[u8], answer: &[u8]) -> bool {
-    let n = expected.len();
-    if n > 3 {
-        if same(part(expected, n - 3, 3), b" ..") {
-            return begins(answer, part(expected, 0, n - 2));
+    match expected.strip_suffix(b"..") {
+        Some(front) if front.len() > 1 && front.ends_with(b" ") => answer.starts_with(front),
+        _ => answer == expected,
+    }
+}
+
+// The call of a line, and what is expected of it: nothing, where there is no arrow.
+fn cut(line: &[u8]) -> (&[u8], &[u8]) {
+    let arrow = line.windows(ARROW.len()).position(|w| w == ARROW);
+    let (call, behind) = line.split_at(arrow.unwrap_or(line.len()));
+    (call, behind.strip_prefix(ARROW).unwrap_or(&[]))
+}
+
+// The first bytes of an answer.
+fn front(answer: &str) -> &[u8]
+    ensures { length result.now ≤ LONGEST_ANSWER }
+{
+    let answer = answer.as_bytes();
+    answer.get(..LONGEST_ANSWER).unwrap_or(answer)
+}
+
+// A run over a text: where it writes, what lines carry from one to the next, and the counts.
+#[derive(Drop)]
+struct Session<W> {
+    alloc: Global,
+    to: W,
+    state: State,
+    tally: Tally,
+}
+
+impl<W: Write + Drop> Session<W> {
+    fn new(alloc: Global, to: W) -> Result<Session<W>, AllocError> {
+        let state = State::new(alloc)?;
+        let tally = Tally::default();
+        Ok(Session {
+            alloc,
+            to,
+            state,
+            tally,
+        })
+    }
+
+    // Counts a line whose answer differs, or that is none, and writes it.
+    fn differs(&mut self, n: u64, line: &[u8], answer: Option<&[u8]>) -> io::Result<()> {
+        self.tally.note(self.state.by, false);
+        write!(self.to, "line {n}: ")?;
+        self.to.write_all(line)?;
+        match answer {
+            Some(answer) => {
+                self.to.write_all(b"\n  came out: ")?;
+                self.to.write_all(answer)?;
+            }
+            None => self.to.write_all(b"\n  is no line of a case")?,
         }
+        self.to.write_all(b"\n")
     }
-    same(expected, answer)
-}
 
-// Writes a line whose answer differs.
-fn differs(
-    to: &mut impl Write,
-    n: u64,
-    line: &[u8],
-    formed: bool,
-    answer: &[u8],
-) -> io::Result<()> {
-    write!(to, "line {n}: ")?;
-    to.write_all(line)?;
-    if formed {
-        to.write_all(b"\n  came out: ")?;
-        to.write_all(answer)?;
-    } else {
-        to.write_all(b"\n  is no line of a case")?;
-    }
-    to.write_all(b"\n")
-}
-
-// Judges what a line came to. One that asks nothing is counted only if it is wrong.
-fn judge(
-    to: &mut impl Write,
-    n: u64,
-    line: &[u8],
-    said: usize,
-    out: &[u8; 4200],
-    by: usize,
-    counts: &mut [u64; 11],
-) -> io::Result<()> {
-    let answer = front(out, said);
-    let expected = rest(rest(line, arrow(line)), 4);
-    let formed = said < UNCLEAR;
-    if !(formed & holds(expected, answer)) {
-        tally::note(counts, by, false);
-        return differs(to, n, line, formed, answer);
-    }
-    if answer.len() > 0 {
-        tally::note(counts, by, true);
-    }
-    Ok(())
-}
-
-// Whether a line says nothing: an empty one, and a comment.
-fn is_comment(line: &[u8]) -> bool {
-    if line.len() < 1 {
-        return true;
-    }
-    byte(line, 0) == b'#'
-}
-
-// Runs the line with the number n, the first being 1.
-fn run_line(
-    to: &mut impl Write,
-    n: u64,
-    line: &[u8],
-    memory: &mut [u8],
-    state: &mut [usize; 10],
-    counts: &mut [u64; 11],
-) -> io::Result<()> {
-    if is_comment(line) {
-        return Ok(());
-    }
-    let mut out = [0u8; 4200];
-    let call = part(line, 0, arrow(line));
-    let said = lines::follow(call, memory, state, &mut out);
-    judge(to, n, line, said, &out, state[state::BY], counts)
-}
-
-// Where the line behind the one at a place begins.
-fn behind(s: &[u8], at: usize) -> usize
-    requires { at < length s.now }
-    ensures { at < result }
-{
-    let len = find(rest(s, at), b'\n');
-    at + len + 1
-}
-
-// Runs the lines of a text.
-fn run(
-    to: &mut impl Write,
-    all: &[u8],
-    memory: &mut [u8],
-    state: &mut [usize; 10],
-    counts: &mut [u64; 11],
-) -> io::Result<()> {
-    let mut n = 0;
-    let mut at = 0;
-    while at < all.len() {
-        let line = text::before(rest(all, at), b'\n');
-        n += 1;
-        run_line(to, n, line, memory, state, counts)?;
-        at = behind(all, at);
-    }
-    Ok(())
-}
-
-// Reads until the memory is full or the input ends; how many bytes there were.
-fn read_full(from: &mut impl Read, memory: &mut [u8]) -> io::Result<usize>
-    ensures { IfOk result (λ n. n ≤ length memory.new) }
-{
-    let mut done = 0;
-    while done < memory.len() {
-        let n = from.read(&mut memory[done..])?;
-        if n == 0 {
-            break;
+    // Runs the line with the number n, the first being 1. One that asks nothing is counted only if it is wrong.
+    fn line(&mut self, n: u64, line: &[u8]) -> io::Result<()> {
+        let (call, expected) = cut(line);
+        let words: Vec<&[u8]> = call.split(|b| *b == b' ').collect(self.alloc)?;
+        let mut out = String::new(self.alloc);
+        match lines::follow(self.alloc, words.as_slice(), &mut self.state, &mut out) {
+            Ok(()) => {}
+            Err(Trouble::NoLine) => return self.differs(n, line, None),
+            Err(Trouble::OutOfMemory) => return Err(AllocError.into()),
         }
-        done += n;
+        let answer = front(out.as_str());
+        if !holds(expected, answer) {
+            return self.differs(n, line, Some(answer));
+        }
+        if !answer.is_empty() {
+            self.tally.note(self.state.by, true);
+        }
+        Ok(())
     }
-    Ok(done)
-}
 
-// Runs the text of an input, which fills less than the memory lent for it, and writes the counts.
-fn run_input(from: &mut impl Read, to: &mut impl Write, space: &mut [u8]) -> io::Result<()> {
-    let mut memory = [0u8; 196611];
-    let mut state = [0usize; 10];
-    let mut counts = [0u64; 11];
-    let n = read_full(from, space)?;
-    run(to, &space[..n], &mut memory, &mut state, &mut counts)?;
-    tally::show(to, &counts)?;
-    if n == space.len() {
-        to.write_all(b"the text is too long\n")?;
+    // Runs the lines of a text, and writes the counts; an empty line and a comment say nothing.
+    fn text(&mut self, text: &[u8]) -> io::Result<()> {
+        for (n, line) in (1u64..).zip(text.split(|b| *b == b'\n')) {
+            if !matches!(line, [] | [b'#', ..]) {
+                self.line(n, line)?;
+            }
+        }
+        write!(self.to, "{}", self.tally)?;
+        if text.len() == TOO_LONG {
+            self.to.write_all(b"the text is too long\n")?;
+        }
+        Ok(())
     }
-    Ok(())
-}
-
-// Zeros that hold any text. The promise gives the length, which lending the array as a slice asks for.
-fn zeros() -> [u8; 524288]
-    ensures { length result ≡ 524288 }
-{
-    [0; 524288]
 }
 
 fn main(rt: HostRuntime) -> io::Result<()> {
-    let mut space = zeros();
-    run_input(&mut rt.reader(), &mut io::writer(&rt), &mut space)
+    let alloc = rt.alloc();
+    let mut text = Vec::new(alloc);
+    rt.reader().take(TOO_LONG as u64).read_to_end(&mut text)?;
+    Session::new(alloc, io::writer(&rt))?.text(text.as_slice())
 }

@@ -1,76 +1,69 @@
-// The calls on one table that change no byte, but for those of its entry cursor.
-use crate::given::{number, two};
-use crate::state::UNCLEAR;
-use crate::text::{front, part, word};
-use crate::{entry, ops, put, show};
+// The questions to one table, but for those to its entry cursor.
+use crate::answers;
+use crate::answers::Lookup;
+use crate::entry::{Entry, Key};
+use crate::given::number;
+use crate::show::{Hex, View, part};
+use crate::trouble::{NoLine, Trouble};
 use capi::memtable::{
-    BavoLookup, bavo_check, bavo_contains, bavo_get, bavo_get_value, bavo_value, bavo_value_refusal,
+    bavo_check, bavo_contains, bavo_get, bavo_get_value, bavo_value, bavo_value_refusal,
 };
-
-// A lookup's answer.
-fn lookup(out: &mut [u8; 4200], image: &[u8], r: BavoLookup) -> usize {
-    if r.refusal != 0 {
-        return show::refused(out, 0, r.refusal);
-    }
-    show::lookup(out, image, r.answer, 0, r.node, r.looks)
-}
-
-// The calls that take a key: a lookup, the value in one call, and whether an entry is held.
-fn with_key(op: usize, s: &[u8], image: &[u8], out: &mut [u8; 4200]) -> usize {
-    let mut space = [0u8; 4200];
-    let held = op == ops::CONTAINS;
-    let asked = entry::asked(s, held, &mut space);
-    let bare = entry::value_text(s).len() < 1;
-    if !(asked.formed & bare) {
-        return UNCLEAR;
-    }
-    let key = front(&space, asked.len);
-    if held {
-        let r = bavo_contains(image, key, asked.number, asked.kind);
-        return show::presence(out, r);
-    }
-    if op == ops::GET_VALUE {
-        return show::view_at(out, image, 0, bavo_get_value(image, key, asked.number));
-    }
-    lookup(out, image, bavo_get(image, key, asked.number))
-}
-
-// The value of a node, or its companion.
-fn value(op: usize, s: &[u8], image: &[u8], out: &mut [u8; 4200]) -> usize {
-    let n = number(s);
-    let node = n.value as usize;
-    if !n.formed {
-        return UNCLEAR;
-    }
-    if op == ops::VALUE {
-        return show::view_at(out, image, 0, bavo_value(image, node));
-    }
-    put::number(out, 0, bavo_value_refusal(image, node) as u64)
-}
+use std::alloc::{AllocError, Global};
 
 // So many bytes of the image from a place on, four to a group.
-fn bytes(call: &[u8], image: &[u8], out: &mut [u8; 4200]) -> usize {
-    let n = two(call, 2);
-    let stretch = part(image, n.first as usize, n.second as usize);
-    if !n.formed {
-        return UNCLEAR;
+fn bytes(image: &[u8], from: usize, len: usize, out: &mut String) -> Result<(), Trouble> {
+    let stretch = part(image, from, len).ok_or(NoLine)?;
+    if stretch.is_empty() {
+        return Err(Trouble::NoLine);
     }
-    if stretch.len() < 1 {
-        return UNCLEAR;
+    for group in stretch.chunks(4) {
+        if !out.is_empty() {
+            out.push(' ')?;
+        }
+        write!(out, "{}", Hex(group))?;
     }
-    put::hex(out, 0, stretch, 4)
+    Ok(())
 }
 
-pub fn ask(op: usize, call: &[u8], image: &[u8], out: &mut [u8; 4200]) -> usize {
-    if op == ops::BYTES {
-        return bytes(call, image, out);
+// A lookup of a key.
+fn get(image: &[u8], key: &Key, out: &mut String) -> Result<(), AllocError> {
+    let r = bavo_get(image, key.bytes.as_slice(), key.number);
+    match Lookup::try_from(r) {
+        Ok(lookup) => lookup.write(image, out),
+        Err(refused) => write!(out, "{refused}"),
     }
-    if op == ops::CHECK {
-        return show::unless(out, bavo_check(image), b"not sound");
+}
+
+// Whether an entry is held; the line gives no value.
+fn contains(image: &[u8], entry: &Entry<'_>, out: &mut String) -> Result<(), Trouble> {
+    if !entry.is_bare() {
+        return Err(Trouble::NoLine);
     }
-    let s = word(call, 2);
-    if op < ops::VALUE {
-        return with_key(op, s, image, out);
+    let key = entry.key.bytes.as_slice();
+    let r = bavo_contains(image, key, entry.key.number, entry.kind);
+    Ok(answers::presence(r, out)?)
+}
+
+// What a line asks of the table with this image.
+pub fn ask(alloc: Global, words: &[&[u8]], image: &[u8], out: &mut String) -> Result<(), Trouble> {
+    match words {
+        [b"bytes", _, from, len] => bytes(image, number(from)?, number(len)?, out)?,
+        [b"check", _] if bavo_check(image) => out.push_str("sound")?,
+        [b"check", _] => out.push_str("not sound")?,
+        [b"get", _, key] => get(image, &Key::new(alloc, key)?, out)?,
+        [b"get_value", _, key] => {
+            let key = Key::new(alloc, key)?;
+            let value = bavo_get_value(image, key.bytes.as_slice(), key.number);
+            View::new(image, value).write_at(None, out)?
+        }
+        [b"contains", _, entry] => contains(image, &Entry::new(alloc, entry)?, out)?,
+        [b"value", _, node] => {
+            View::new(image, bavo_value(image, number(node)?)).write_at(None, out)?
+        }
+        [b"value_refusal", _, node] => {
+            write!(out, "{}", bavo_value_refusal(image, number(node)?))?
+        }
+        _ => return Err(Trouble::NoLine),
     }
-    value(op, s, image, out)
+    Ok(())
 }

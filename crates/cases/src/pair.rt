@@ -1,163 +1,135 @@
 // The calls over both tables: the lookup in a pair, the moves of the visible cursor, its views.
+use crate::answers::{Found, Lookup, Moved};
+use crate::entry::Key;
 use crate::given::number;
-use crate::state::UNCLEAR;
-use crate::text::{byte, front, rest};
-use crate::{entry, ops, put, show, state};
+use crate::show::{Refused, View, Within};
+use crate::state::State;
+use crate::tables::Table;
+use crate::trouble::{NoLine, Trouble};
 use capi::db_iter::{
-    BavoCursor, BavoMoved, BavoPairLookup, bavo_first, bavo_next, bavo_pair_get, bavo_prev,
-    bavo_seek,
+    BavoCursor, BavoMoved, bavo_first, bavo_next, bavo_pair_get, bavo_prev, bavo_seek,
 };
 use capi::memtable::{BavoView, bavo_value};
 use capi::row_views::{BavoRowView, bavo_row_key, bavo_row_refusal, bavo_row_value};
+use std::alloc::{AllocError, Global};
 
-// More than a refusal's number: the line is none.
-const NO_LINE: u32 = 99;
-
-// The image that a table's number names.
-fn image_of<'a>(first: &'a [u8], second: &'a [u8], table: u32) -> &'a [u8] {
-    if table == 2 {
-        return second;
-    }
-    first
+// The images of both tables.
+#[derive(Clone, Copy)]
+struct Pair<'a> {
+    first: &'a [u8],
+    second: &'a [u8],
 }
 
-// The view in its image.
-fn plain(v: BavoRowView) -> BavoView {
-    BavoView {
-        refusal: v.refusal,
-        offset: v.offset,
-        length: v.length,
+impl<'a> Pair<'a> {
+    fn of(state: &'a State) -> Pair<'a> {
+        Pair {
+            first: state.memory(Table::A).image.as_slice(),
+            second: state.memory(Table::B).image.as_slice(),
+        }
+    }
+
+    // The image of a table; of none, any.
+    fn image(self, table: Option<Table>) -> &'a [u8] {
+        match table {
+            Some(Table::B) => self.second,
+            _ => self.first,
+        }
+    }
+
+    // A view of a row in the image of its table.
+    fn view(self, v: BavoRowView) -> View<'a> {
+        let image = self.image(Table::numbered(v.table));
+        let view = BavoView {
+            refusal: v.refusal,
+            offset: v.offset,
+            length: v.length,
+        };
+        View::new(image, view)
+    }
+
+    // A lookup in the pair.
+    fn get(self, key: &Key) -> Result<Lookup, Refused> {
+        Lookup::try_from(bavo_pair_get(self.first, self.second, key.bytes.as_slice(), key.number))
+    }
+
+    // What it answered.
+    fn write_lookup(self, key: &Key, out: &mut String) -> Result<(), AllocError> {
+        match self.get(key) {
+            Ok(lookup) => lookup.write(self.image(lookup.table()), out),
+            Err(refused) => write!(out, "{refused}"),
+        }
+    }
+
+    // The value that a lookup found, or that there is none.
+    fn write_row(self, key: &Key, out: &mut String) -> Result<(), AllocError> {
+        match self.get(key).map(|lookup| lookup.found) {
+            Ok(Found::Node(table, node)) => {
+                let image = self.image(table);
+                write!(out, "{}", View::new(image, bavo_value(image, node)))
+            }
+            Ok(_) => out.push_str("none"),
+            Err(refused) => write!(out, "{refused}"),
+        }
+    }
+
+    // The row at a cursor, and its place.
+    fn write_row_at(self, at: BavoCursor, out: &mut String) -> Result<(), AllocError> {
+        let key = self.view(bavo_row_key(self.first, self.second, at));
+        let value = self.view(bavo_row_value(self.first, self.second, at));
+        let within = Within(Table::numbered(at.table));
+        write!(out, "{key}={value}{within} node {}", at.node)
+    }
+
+    // A view with its table, or that it is nowhere.
+    fn write_view(self, v: BavoRowView, out: &mut String) -> Result<(), AllocError> {
+        match Table::numbered(v.table) {
+            None if v.refusal == 0 => out.push_str("\"\" nowhere"),
+            table => self.view(v).write_at(table, out),
+        }
     }
 }
 
-// A lookup's answer; `row` tells a value, or that there is none.
-fn lookup(op: usize, out: &mut [u8; 4200], image: &[u8], r: BavoPairLookup) -> usize {
-    if r.refusal != 0 {
-        return show::refused(out, 0, r.refusal);
-    }
-    if op != ops::ROW {
-        return show::lookup(out, image, r.answer, r.table, r.node, r.looks);
-    }
-    if r.answer != 1 {
-        return put::text(out, 0, b"none");
-    }
-    show::view(out, 0, image, bavo_value(image, r.node))
+// The snapshot that @ and its number give.
+fn snapshot(s: &[u8]) -> Result<u64, NoLine> {
+    number(s.strip_prefix(b"@").ok_or(NoLine)?)
 }
 
-// A lookup in the pair.
-fn get<'a>(op: usize, s: &[u8], first: &'a [u8], second: &'a [u8], out: &mut [u8; 4200]) -> usize {
-    let mut space = [0u8; 4200];
-    let asked = entry::asked(s, false, &mut space);
-    if !asked.formed {
-        return UNCLEAR;
-    }
-    let r = bavo_pair_get(first, second, front(&space, asked.len), asked.number);
-    lookup(op, out, image_of(first, second, r.table), r)
-}
-
-fn no_line() -> BavoMoved {
-    BavoMoved {
-        refusal: NO_LINE,
-        table: 0,
-        node: 0,
-    }
-}
-
-// To a key with a row, at or above one.
-fn sought<'a>(s: &[u8], first: &'a [u8], second: &'a [u8], c: BavoCursor) -> BavoMoved {
-    let mut space = [0u8; 4200];
-    let asked = entry::asked(s, false, &mut space);
-    if !asked.formed {
-        return no_line();
-    }
-    let key = front(&space, asked.len);
-    bavo_seek(first, second, asked.number, c, key)
-}
-
-fn moved<'a>(op: usize, s: &[u8], first: &'a [u8], second: &'a [u8], c: BavoCursor) -> BavoMoved {
-    if op == ops::SEEK {
-        return sought(s, first, second, c);
-    }
-    let n = number(rest(s, 1));
-    if !(n.formed & (byte(s, 0) == b'@')) {
-        return no_line();
-    }
-    match op {
-        ops::FIRST => bavo_first(first, second, n.value, c),
-        ops::NEXT => bavo_next(first, second, n.value, c),
-        _ => bavo_prev(first, second, n.value, c),
-    }
-}
-
-// The row at a cursor, and its place.
-fn row_at<'a>(out: &mut [u8; 4200], first: &'a [u8], second: &'a [u8], c: BavoCursor) -> usize {
-    let image = image_of(first, second, c.table);
-    let end = show::view(out, 0, image, plain(bavo_row_key(first, second, c)));
-    let end = put::byte(out, end, b'=');
-    let end = show::view(out, end, image, plain(bavo_row_value(first, second, c)));
-    show::place(out, end, c.table, c.node)
-}
-
-// Where a move led.
-fn led<'a>(out: &mut [u8; 4200], first: &'a [u8], second: &'a [u8], r: BavoMoved) -> usize {
-    if r.refusal != 0 {
-        return show::refused_move(out, r.refusal, r.table, r.node);
-    }
-    if r.table == 0 {
-        return put::text(out, 0, b"nowhere");
-    }
-    let c = BavoCursor {
+// Takes the visible cursor where a move led, and writes that.
+fn go(r: BavoMoved, state: &mut State, out: &mut String) -> Result<(), AllocError> {
+    let at = BavoCursor {
         table: r.table,
         node: r.node,
     };
-    row_at(out, first, second, c)
+    state.cursor = at;
+    let pair = Pair::of(state);
+    Moved::from(r).write(out, |out| pair.write_row_at(at, out))
 }
 
-// A view with its table, or that it is nowhere.
-fn view_at<'a>(out: &mut [u8; 4200], first: &'a [u8], second: &'a [u8], v: BavoRowView) -> usize {
-    if (v.refusal == 0) & (v.table == 0) {
-        return put::text(out, 0, b"\"\" nowhere");
+// What a line asks of both tables.
+pub fn ask(
+    alloc: Global,
+    words: &[&[u8]],
+    state: &mut State,
+    out: &mut String,
+) -> Result<(), Trouble> {
+    let at = state.cursor;
+    let pair = Pair::of(state);
+    let Pair { first, second } = pair;
+    match words {
+        [b"pair_get", key] => pair.write_lookup(&Key::new(alloc, key)?, out)?,
+        [b"row", key] => pair.write_row(&Key::new(alloc, key)?, out)?,
+        [b"first", n] => go(bavo_first(first, second, snapshot(n)?, at), state, out)?,
+        [b"seek", key] => {
+            let key = Key::new(alloc, key)?;
+            let r = bavo_seek(first, second, key.number, at, key.bytes.as_slice());
+            go(r, state, out)?
+        }
+        [b"next", n] => go(bavo_next(first, second, snapshot(n)?, at), state, out)?,
+        [b"prev", n] => go(bavo_prev(first, second, snapshot(n)?, at), state, out)?,
+        [b"row_key"] => pair.write_view(bavo_row_key(first, second, at), out)?,
+        [b"row_value"] => pair.write_view(bavo_row_value(first, second, at), out)?,
+        [b"row_refusal"] => write!(out, "{}", bavo_row_refusal(first, second, at))?,
+        _ => return Err(Trouble::NoLine),
     }
-    let image = image_of(first, second, v.table);
-    show::view_at(out, image, v.table, plain(v))
-}
-
-// The views at the cursor.
-fn shown<'a>(
-    op: usize,
-    first: &'a [u8],
-    second: &'a [u8],
-    c: BavoCursor,
-    out: &mut [u8; 4200],
-) -> usize {
-    if op == ops::ROW_KEY {
-        return view_at(out, first, second, bavo_row_key(first, second, c));
-    }
-    if op == ops::ROW_VALUE {
-        return view_at(out, first, second, bavo_row_value(first, second, c));
-    }
-    put::number(out, 0, bavo_row_refusal(first, second, c) as u64)
-}
-
-pub fn ask<'a>(
-    op: usize,
-    s: &[u8],
-    first: &'a [u8],
-    second: &'a [u8],
-    state: &mut [usize; 10],
-    out: &mut [u8; 4200],
-) -> usize {
-    let c = state::cursor(state);
-    if op >= ops::ROW_KEY {
-        return shown(op, first, second, c, out);
-    }
-    if op <= ops::ROW {
-        return get(op, s, first, second, out);
-    }
-    let r = moved(op, s, first, second, c);
-    if r.refusal == NO_LINE {
-        return UNCLEAR;
-    }
-    state::set_cursor(state, r.table as usize, r.node);
-    led(out, first, second, r)
+    Ok(())
 }

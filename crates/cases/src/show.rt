@@ -1,88 +1,123 @@
-// Answers in words.
-use crate::put;
-use crate::text::{part, rest, word};
-use capi::memtable::{BavoPresence, BavoView, bavo_value};
+// Bytes, tables, refusals and views in words.
+ghost use Rattle.std.specs.Prelude.{◌≡◌, length, IfSome};
 
-// A refusal's number.
-pub fn refused(out: &mut [u8; 4200], at: usize, refusal: u32) -> usize {
-    put::counted(out, at, b"refused ", refusal as usize)
+use crate::given::is_plain;
+use crate::tables::Table;
+use capi::memtable::BavoView;
+use std::alloc::AllocError;
+use std::fmt;
+
+// More equal bytes than this are written as one letter so many times.
+const LONG: usize = 16;
+
+// A part of some bytes, if they have it.
+pub fn part(s: &[u8], from: usize, len: usize) -> Option<&[u8]>
+    ensures { IfSome result (λ p. length p.now ≡ len) }
+{
+    s.get(from..)?.get(..len)
 }
 
-// A refused move, with the two numbers of the cursor that it handed back.
-pub fn refused_move(out: &mut [u8; 4200], refusal: u32, on: u32, node: usize) -> usize {
-    let end = refused(out, 0, refusal);
-    let end = put::counted(out, end, b" back ", on as usize);
-    put::counted(out, end, b" ", node)
-}
+// Bytes in hexadecimal.
+#[derive(Clone, Copy, Debug)]
+pub struct Hex<'a>(pub &'a [u8]);
 
-// The bytes of a view, or its refusal.
-pub fn view(out: &mut [u8; 4200], at: usize, image: &[u8], v: BavoView) -> usize {
-    if v.refusal != 0 {
-        return refused(out, at, v.refusal);
+impl fmt::Display for Hex<'_> {
+    fn fmt<W: fmt::Write>(&self, f: &mut fmt::Formatter<W>) -> fmt::Result {
+        for b in self.0 {
+            write!(f, "{b:02x}")?;
+        }
+        Ok(())
     }
-    put::bytes(out, at, part(image, v.offset, v.length))
 }
 
-// The same with the place where the bytes stand.
-pub fn view_at(out: &mut [u8; 4200], image: &[u8], table: u32, v: BavoView) -> usize {
-    let end = view(out, 0, image, v);
-    if v.refusal != 0 {
-        return end;
+// Bytes as a line gives them.
+#[derive(Clone, Copy, Debug)]
+pub struct Bytes<'a>(pub &'a [u8]);
+
+impl fmt::Display for Bytes<'_> {
+    fn fmt<W: fmt::Write>(&self, f: &mut fmt::Formatter<W>) -> fmt::Result {
+        let Some(first) = self.0.first() else {
+            return f.write_str("\"\"");
+        };
+        if !is_plain(self.0) {
+            return write!(f, "x:{}", Hex(self.0));
+        }
+        if self.0.len() > LONG && self.0.iter().all(|b| b == first) {
+            return write!(f, "{}*{}", char::from(*first), self.0.len());
+        }
+        for b in self.0 {
+            f.write_char(char::from(*b))?;
+        }
+        Ok(())
     }
-    let end = in_table(out, end, table);
-    put::counted(out, end, b" at ", v.offset)
 }
 
-// The first or the second table; 0 is none.
-fn in_table(out: &mut [u8; 4200], at: usize, table: u32) -> usize {
-    let from = if table == 2 { 5 } else { 0 };
-    let len = if table == 0 { 0 } else { 5 };
-    put::text(out, at, part(b" in A in B", from, len))
-}
+// Which table something is in, where a call is over both.
+#[derive(Clone, Copy, Debug)]
+pub struct Within(pub Option<Table>);
 
-// A node, and of a pair its table.
-pub fn place(out: &mut [u8; 4200], at: usize, table: u32, node: usize) -> usize {
-    let end = in_table(out, at, table);
-    put::counted(out, end, b" node ", node)
-}
-
-// The value and the place of a found node.
-fn found(out: &mut [u8; 4200], at: usize, image: &[u8], table: u32, node: usize) -> usize {
-    let end = put::byte(out, at, b' ');
-    let end = view(out, end, image, bavo_value(image, node));
-    place(out, end, table, node)
-}
-
-// What a lookup answered; the image is that of the found node.
-pub fn lookup(
-    out: &mut [u8; 4200],
-    image: &[u8],
-    answer: u32,
-    table: u32,
-    node: usize,
-    looks: usize,
-) -> usize {
-    let end = put::text(out, 0, word(b"absent found deleted", answer as usize));
-    if answer != 1 {
-        return put::counted(out, end, b" looks ", looks);
+impl fmt::Display for Within {
+    fn fmt<W: fmt::Write>(&self, f: &mut fmt::Formatter<W>) -> fmt::Result {
+        match self.0 {
+            Some(table) => write!(f, " in {table}"),
+            None => Ok(()),
+        }
     }
-    let end = found(out, end, image, table, node);
-    put::counted(out, end, b" looks ", looks)
 }
 
-// Whether an entry is held.
-pub fn presence(out: &mut [u8; 4200], r: BavoPresence) -> usize {
-    if r.refusal != 0 {
-        return refused(out, 0, r.refusal);
+// A refused call, by the refusal's number.
+#[derive(Clone, Copy, Debug, PartialEq, Eq)]
+pub struct Refused(u32);
+
+impl Refused {
+    // C's number of a refusal: 0 is none.
+    pub fn unless_zero(refusal: u32) -> Result<(), Refused> {
+        match refusal {
+            0 => Ok(()),
+            _ => Err(Refused(refusal)),
+        }
     }
-    let end = unless(out, r.held == 1, b"not held");
-    put::counted(out, end, b" looks ", r.looks)
 }
 
-// A text that begins with 'not ', or without that.
-pub fn unless(out: &mut [u8; 4200], yes: bool, s: &[u8]) -> usize {
-    if yes {
-        return put::text(out, 0, rest(s, 4));
+impl fmt::Display for Refused {
+    fn fmt<W: fmt::Write>(&self, f: &mut fmt::Formatter<W>) -> fmt::Result {
+        write!(f, "refused {}", self.0)
     }
-    put::text(out, 0, s)
+}
+
+// The part of an image that C's struct names, or a refusal.
+#[derive(Clone, Copy)]
+pub struct View<'a> {
+    image: &'a [u8],
+    view: BavoView,
+}
+
+impl<'a> View<'a> {
+    pub fn new(image: &'a [u8], view: BavoView) -> View<'a> {
+        View { image, view }
+    }
+
+    // The bytes that it shows.
+    fn bytes(self) -> Result<Bytes<'a>, Refused> {
+        Refused::unless_zero(self.view.refusal)?;
+        let bytes = part(self.image, self.view.offset, self.view.length);
+        Ok(Bytes(bytes.unwrap_or(&[])))
+    }
+
+    // Writes them with the place where they stand.
+    pub fn write_at(self, table: Option<Table>, out: &mut String) -> Result<(), AllocError> {
+        match self.bytes() {
+            Ok(bytes) => write!(out, "{bytes}{} at {}", Within(table), self.view.offset),
+            Err(refused) => write!(out, "{refused}"),
+        }
+    }
+}
+
+impl fmt::Display for View<'_> {
+    fn fmt<W: fmt::Write>(&self, f: &mut fmt::Formatter<W>) -> fmt::Result {
+        match self.bytes() {
+            Ok(bytes) => write!(f, "{bytes}"),
+            Err(refused) => write!(f, "{refused}"),
+        }
+    }
 }

@@ -1,88 +1,111 @@
-// What lines carry from one to the next, in numbers: who answers; the table of the last fresh or add, 0 or 1; the lengths of the two
-// images; the visible cursor and the two entry cursors, as C keeps them.
-ghost use Rattle.std.specs.Prelude.{◌≤◌};
+// What lines carry from one to the next.
+ghost use Rattle.std.specs.Prelude.{◌≡◌, OnOk, vec_len};
 
-use crate::text::part;
+use crate::tables::Table;
+use crate::tally::Source;
+use crate::trouble::Trouble;
 use capi::db_iter::BavoCursor;
 use capi::entry_iter::BavoEntryCursor;
+use std::alloc::{AllocError, Global};
 
-// How many bytes each of the three memories has: those of table A, of table B, and the bytes before the last fresh or add.
+// A memory has at most this many bytes: the longest image, and one byte more.
 pub const SIZE: usize = 65537;
 
-pub const BEFORE: usize = 131074;
-
-pub const BY: usize = 0;
-
-pub const WROTE: usize = 1;
-
-// What answers a line that is none, more than an answer is long; and one that asks nothing.
-pub const UNCLEAR: usize = 100000;
-
-pub const QUIET: usize = 0;
-
-// Where a table's memory begins.
-pub fn start(t: usize) -> usize
-    ensures { result ≤ 65537 }
-{
-    if t == 1 { SIZE } else { 0 }
+// A table's memory, which is its image, and its entry cursor as C keeps it.
+#[derive(Drop)]
+pub struct Memory {
+    pub image: Vec<u8>,
+    pub cursor: BavoEntryCursor,
 }
 
-pub fn len(state: &[usize; 10], t: usize) -> usize {
-    if t == 1 { state[3] } else { state[2] }
-}
+impl Memory {
+    // No bytes, and the cursor nowhere.
+    fn new(alloc: Global) -> Memory {
+        Memory {
+            image: Vec::new(alloc),
+            cursor: BavoEntryCursor { on: 0, node: 0 },
+        }
+    }
 
-pub fn set_len(state: &mut [usize; 10], t: usize, len: usize) {
-    if t == 1 {
-        state[3] = len;
-    } else {
-        state[2] = len;
+    // Lends the memory anew, all bytes the same.
+    pub fn lend(&mut self, len: usize, with: u8) -> Result<(), Trouble>
+        ensures { OnOk result (vec_len self.new.image ≡ len) }
+    {
+        if len > SIZE {
+            return Err(Trouble::NoLine);
+        }
+        self.image.clear();
+        Ok(self.image.resize(len, with)?)
+    }
+
+    // Zero bytes, and the cursor nowhere.
+    fn begin(&mut self, len: usize) -> Result<(), Trouble> {
+        self.cursor = BavoEntryCursor { on: 0, node: 0 };
+        self.lend(len, 0)
     }
 }
 
-// A table's image: the first bytes of its memory.
-pub fn image(memory: &[u8], t: usize, len: usize) -> &[u8] {
-    part(memory, start(t), len)
+// The two tables' memories; who answers; the visible cursor as C keeps it; the table of the last fresh or add, and the bytes that it
+// had before. These are as many as a memory can have: where the table has been lent longer since, older bytes stand behind.
+#[derive(Drop)]
+pub struct State {
+    memories: [Memory; 2],
+    pub by: Source,
+    pub cursor: BavoCursor,
+    wrote: Table,
+    before: Vec<u8>,
 }
 
-// The first number of a cursor fits where it is set.
-fn low(x: usize) -> u32 {
-    if x > 4294967295 {
-        return 4294967295;
+impl State {
+    // As before the first line.
+    pub fn new(alloc: Global) -> Result<State, AllocError> {
+        Ok(State {
+            memories: [Memory::new(alloc), Memory::new(alloc)],
+            by: Source::Document,
+            cursor: BavoCursor { table: 0, node: 0 },
+            wrote: Table::A,
+            before: vec![in alloc; 0; SIZE]?,
+        })
     }
-    x as u32
-}
 
-pub fn cursor(state: &[usize; 10]) -> BavoCursor {
-    BavoCursor {
-        table: low(state[4]),
-        node: state[5],
+    pub fn memory(&self, table: Table) -> &Memory {
+        &self.memories[table as usize]
     }
-}
 
-pub fn set_cursor(state: &mut [usize; 10], table: usize, node: usize) {
-    state[4] = table;
-    state[5] = node;
-}
-
-pub fn entry_cursor(state: &[usize; 10], t: usize) -> BavoEntryCursor {
-    if t == 1 {
-        return BavoEntryCursor {
-            on: low(state[8]),
-            node: state[9],
-        };
+    pub fn memory_mut(&mut self, table: Table) -> &mut Memory {
+        &mut self.memories[table as usize]
     }
-    BavoEntryCursor {
-        on: low(state[6]),
-        node: state[7],
-    }
-}
 
-pub fn set_entry_cursor(state: &mut [usize; 10], t: usize, on: usize, node: usize) {
-    if t == 1 {
-        state[8] = on;
-        state[9] = node;
-    } else {
-        state[6] = on;
-        state[7] = node;
+    // Begins a case: both memories of zero bytes, every cursor nowhere. Where one is too long, the other is lent all the same.
+    pub fn begin(&mut self, first: usize, second: usize) -> Result<(), Trouble> {
+        self.cursor = BavoCursor { table: 0, node: 0 };
+        let first = self.memory_mut(Table::A).begin(first);
+        let second = self.memory_mut(Table::B).begin(second);
+        first.and(second)
+    }
+
+    // Keeps the bytes of a table that is about to be written.
+    pub fn keep(&mut self, table: Table) {
+        let State {
+            memories,
+            wrote,
+            before,
+            ..
+        } = self;
+        *wrote = table;
+        // A memory is lent beside `before` only through a & to them all.
+        let memories = &*memories;
+        let image = memories[table as usize].image.as_slice();
+        if let Some(kept) = before.as_mut_slice().get_mut(..image.len()) {
+            kept.copy_from_slice(image);
+        }
+    }
+
+    // The table of the last fresh or add as it is, and what it was.
+    pub fn written(&self) -> (&[u8], &[u8]) {
+        (
+            self.memory(self.wrote).image.as_slice(),
+            self.before.as_slice(),
+        )
     }
 }

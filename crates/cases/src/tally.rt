@@ -1,55 +1,86 @@
-// How many answers there were, and how many were as expected: two counts for each source, in the order of their names.
-use crate::text::{index, word};
-use std::io;
-use std::io::Write;
+// How many answers there were from each source, and how many were as expected.
+use crate::trouble::NoLine;
+use std::fmt;
 
-// How many sources there are: by number document 01, the set-up of recorded cases, the model, the crate and LevelDB.
-pub const SOURCES: usize = 5;
-
-// The number of a source.
-pub fn source(name: &[u8]) -> usize {
-    index(b"document set-up model crate leveldb", SOURCES, name)
+// Who gave an answer: document 01, the set-up of recorded cases, the model, the crate or LevelDB.
+#[derive(Clone, Copy, Debug, PartialEq, Eq)]
+pub enum Source {
+    Document,
+    SetUp,
+    Model,
+    Crate,
+    LevelDb,
 }
 
-// Counts one more.
-fn count(counts: &mut [u64; 11], i: usize) {
-    if i > 10 {
-        return;
-    }
-    if counts[i] < u64::MAX {
-        counts[i] += 1;
+// In the order in which they are written.
+const SOURCES: [Source; 5] = [
+    Source::Document,
+    Source::SetUp,
+    Source::Model,
+    Source::Crate,
+    Source::LevelDb,
+];
+
+impl Source {
+    // As lines name it.
+    fn name(self) -> &'static str {
+        match self {
+            Source::Document => "document",
+            Source::SetUp => "set-up",
+            Source::Model => "model",
+            Source::Crate => "crate",
+            Source::LevelDb => "leveldb",
+        }
     }
 }
 
-// Counts an answer of a source; the last count is of all that were not as expected.
-pub fn note(counts: &mut [u64; 11], by: usize, right: bool) {
-    if by >= SOURCES {
-        return;
-    }
-    count(counts, by + by);
-    if right {
-        count(counts, by + by + 1);
-    } else {
-        count(counts, 10);
+impl TryFrom<&[u8]> for Source {
+    type Error = NoLine;
+
+    fn try_from(name: &[u8]) -> Result<Source, NoLine> {
+        SOURCES
+            .into_iter()
+            .find(|source| source.name().as_bytes() == name)
+            .ok_or(NoLine)
     }
 }
 
-// Writes how many of how many answers of a source were as expected.
-fn line(to: &mut impl Write, names: &[u8], k: usize, asked: u64, right: u64) -> io::Result<()> {
-    to.write_all(word(names, k))?;
-    write!(to, ": {right} of {asked} answers\n")
+#[derive(Clone, Copy, Debug, Default)]
+struct Count {
+    asked: u64,
+    right: u64,
 }
 
-// Writes the counts, and last whether all is as expected.
-pub fn show(to: &mut impl Write, counts: &[u64; 11]) -> io::Result<()> {
-    let names = b"document set-up model crate leveldb";
-    line(to, names, 0, counts[0], counts[1])?;
-    line(to, names, 1, counts[2], counts[3])?;
-    line(to, names, 2, counts[4], counts[5])?;
-    line(to, names, 3, counts[6], counts[7])?;
-    line(to, names, 4, counts[8], counts[9])?;
-    if counts[10] > 0 {
-        to.write_all(b"NOT ")?;
+// The counts of the sources, and of all answers that were not as expected.
+#[derive(Clone, Copy, Debug, Default)]
+pub struct Tally {
+    counts: [Count; 5],
+    wrong: u64,
+}
+
+impl Tally {
+    // Counts an answer of a source.
+    pub fn note(&mut self, by: Source, right: bool) {
+        let count = &mut self.counts[by as usize];
+        count.asked = count.asked.saturating_add(1);
+        if right {
+            count.right = count.right.saturating_add(1);
+        } else {
+            self.wrong = self.wrong.saturating_add(1);
+        }
     }
-    to.write_all(b"all as expected\n")
+}
+
+// A line for each source, and last whether all is as expected.
+impl fmt::Display for Tally {
+    fn fmt<W: fmt::Write>(&self, f: &mut fmt::Formatter<W>) -> fmt::Result {
+        for source in SOURCES {
+            let Count { asked, right } = self.counts[source as usize];
+            writeln!(f, "{}: {right} of {asked} answers", source.name())?;
+        }
+        if self.wrong > 0 {
+            write!(f, "NOT ")?;
+        }
+        writeln!(f, "all as expected")
+    }
 }

@@ -1,9 +1,0 @@
--- `put::fill`: one byte a turn.
-use Prim.Native.Nat.{◌≤◌, ◌-◌}
-use Rattle.cases.proofs.put.fill.Given as goal
-
-abbrev pub invariant-loop-i : goal.invariant-loop-i
-invariant-loop-i l = l.i ≤ l.n
-
-abbrev pub decreases-loop-i : goal.decreases-loop-i
-decreases-loop-i l = l.n - l.i

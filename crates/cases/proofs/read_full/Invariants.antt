@@ -1,9 +1,0 @@
--- `read_full`: a read that gives nothing ends it, so each turn fills more of the memory.
-use Rattle.std.proofs.Common.{◌≤◌, ◌-◌, length}
-use Rattle.cases.proofs.read_full.Given as goal
-
-abbrev pub invariant-loop-done : goal.invariant-loop-done
-invariant-loop-done g l = l.done ≤ length l.memory
-
-abbrev pub decreases-loop-done : goal.decreases-loop-done
-decreases-loop-done g l = length l.initial.memory - l.done
