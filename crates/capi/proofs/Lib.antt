@@ -1,4 +1,3 @@
-pub mod Meant
 pub mod OneAnswer
 pub mod Views
 pub mod RawCursors

@@ -4,6 +4,7 @@ use native.Mathlib.Omega.{arith}
 use mathlib.Core.Path.{◌≡◌, refl, ap, ◌∙◌}
 use mathlib.Core.List.{List}
 use mathlib.Core.Bool.{true}
+use Rattle.std.specs.Prelude.{Result, Ok, Err}
 use borrow.Author.Tests.{ne_eqb}
 use Rattle.rule.specs.Moves.{Move}
 use Rattle.image.specs.Sound.{header_holds}
@@ -17,12 +18,11 @@ use Rattle.capi.specs.Plain.{Plainly}
 use Rattle.capi.specs.EntryIter.{entry_cursor_of, plain_entry_moved}
 use Rattle.capi.specs.DbIter.{cursor_of, plain_moved}
 use Rattle.table.specs.declared.memtable_iter.EntryCursor.TheVariants as entry
-use Rattle.table.specs.declared.memtable_iter.EntryMoved.{EntryMoved}
-use Rattle.table.specs.declared.memtable_iter.EntryMoved.TheVariants as moved
+use Rattle.table.specs.declared.memtable_iter.EntryCursor.{EntryCursor}
+use Rattle.table.specs.declared.memtable_iter.Stays.{Stays}
 use Rattle.cursor.specs.declared.places.Side.TheVariants.{First}
 use Rattle.cursor.specs.declared.places.Cursor.TheVariants as visible
-use Rattle.cursor.specs.declared.db_iter.Moved.{Moved}
-use Rattle.cursor.specs.declared.db_iter.Moved.TheVariants.{To, Refused}
+use Rattle.cursor.specs.declared.places.Cursor.{Cursor}
 use Rattle.capi.specs.declared.entry_iter.BavoEntryCursor.{BavoEntryCursor}
 use Rattle.capi.specs.declared.entry_iter.BavoEntryMoved.{BavoEntryMoved}
 use Rattle.capi.specs.declared.db_iter.BavoCursor.{BavoCursor}
@@ -33,15 +33,15 @@ use Rattle.capi.specs.declared.db_iter.BavoMoved.{BavoMoved}
 entry_beyond : (at : BavoEntryCursor) → 1 < at.on → entry_cursor_of at ≡ entry.On 0
 entry_beyond at h = rw (ne_eqb at.on 0 (λ e. omega arith), ne_eqb at.on 1 (λ e. omega arith))
 
-entry_refusal : (at : BavoEntryCursor) (a : EntryMoved) → moved_as a ≡ refused no_node → (plain_entry_moved at a).refusal ≡ number_of no_node
-entry_refusal at (moved.To entry.Nowhere) e = let z : ◌≡◌ {A = ℕ} 0 1 = cc in omega arith
-entry_refusal at (moved.To (entry.On i)) e = let z : ◌≡◌ {A = ℕ} 0 1 = cc in omega arith
-entry_refusal at (moved.Refused q c) e = let z : refusal_is q ≡ no_node = cc in ap number_of z
+entry_refusal : (at : BavoEntryCursor) (a : Result EntryCursor (Stays EntryCursor)) → moved_as a ≡ refused no_node → (plain_entry_moved at a).refusal ≡ number_of no_node
+entry_refusal at (Ok entry.Nowhere) e = let z : ◌≡◌ {A = ℕ} 0 1 = cc in omega arith
+entry_refusal at (Ok (entry.On i)) e = let z : ◌≡◌ {A = ℕ} 0 1 = cc in omega arith
+entry_refusal at (Err r) e = let z : refusal_is r.why ≡ no_node = cc in ap number_of z
 
-entry_handed : (at : BavoEntryCursor) (a : EntryMoved) → ((plain_entry_moved at a).refusal ≡ 0 → ⊥) → ((plain_entry_moved at a).on ≡ at.on) × ((plain_entry_moved at a).node ≡ at.node)
-entry_handed at (moved.To entry.Nowhere) n = absurd (n refl)
-entry_handed at (moved.To (entry.On i)) n = absurd (n refl)
-entry_handed at (moved.Refused q c) n = (refl, refl)
+entry_handed : (at : BavoEntryCursor) (a : Result EntryCursor (Stays EntryCursor)) → ((plain_entry_moved at a).refusal ≡ 0 → ⊥) → ((plain_entry_moved at a).on ≡ at.on) × ((plain_entry_moved at a).node ≡ at.node)
+entry_handed at (Ok entry.Nowhere) n = absurd (n refl)
+entry_handed at (Ok (entry.On i)) n = absurd (n refl)
+entry_handed at (Err r) n = (refl, refl)
 
 module _ (xs : List ℕ) (m : EntryMove) (at : BavoEntryCursor) {r : BavoEntryMoved} (p : Plainly (plain_entry_moved at) (λ a. EntryMoves xs m (entry_cursor_of at) a) r) where
   pub entry_beyond_refused : header_holds xs ≡ true → 1 < at.on → r.refusal ≡ number_of no_node
@@ -57,15 +57,15 @@ beyond : (at : BavoCursor) → 2 < at.table → cursor_of at ≡ visible.On (pla
 beyond at h = rw (ne_eqb at.table 0 (λ e. omega arith), ne_eqb at.table 1 (λ e. omega arith), ne_eqb at.table 2 (λ e. omega arith))
 
 -- what is refused with 10
-refusal : (at : BavoCursor) (c : _) (a : Moved) → RefusedWith no_node c (visible_as a) → (plain_moved at a).refusal ≡ number_of no_node
-refusal at c (To visible.Nowhere) e = ap (λ (w : MovedIs). w.refusal) e
-refusal at c (To (visible.On p)) e = ap (λ (w : MovedIs). w.refusal) e
-refusal at c (Refused q d) e = ap (λ (w : MovedIs). w.refusal) e
+refusal : (at : BavoCursor) (c : _) (a : Result Cursor (Stays Cursor)) → RefusedWith no_node c (visible_as a) → (plain_moved at a).refusal ≡ number_of no_node
+refusal at c (Ok visible.Nowhere) e = ap (λ (w : MovedIs). w.refusal) e
+refusal at c (Ok (visible.On p)) e = ap (λ (w : MovedIs). w.refusal) e
+refusal at c (Err r) e = ap (λ (w : MovedIs). w.refusal) e
 
-handed : (at : BavoCursor) (a : Moved) → ((plain_moved at a).refusal ≡ 0 → ⊥) → ((plain_moved at a).table ≡ at.table) × ((plain_moved at a).node ≡ at.node)
-handed at (To visible.Nowhere) n = absurd (n refl)
-handed at (To (visible.On p)) n = absurd (n refl)
-handed at (Refused q c) n = (refl, refl)
+handed : (at : BavoCursor) (a : Result Cursor (Stays Cursor)) → ((plain_moved at a).refusal ≡ 0 → ⊥) → ((plain_moved at a).table ≡ at.table) × ((plain_moved at a).node ≡ at.node)
+handed at (Ok visible.Nowhere) n = absurd (n refl)
+handed at (Ok (visible.On p)) n = absurd (n refl)
+handed at (Err r) n = (refl, refl)
 
 module _ (v : Move) (f g : List ℕ) (s : ℕ) (at : BavoCursor) {r : BavoMoved} (p : Plainly (plain_moved at) (λ a. Moves v f g s (cursor_of at) a) r) where
   pub beyond_refused : header_holds f ≡ true → header_holds g ≡ true → 2 < at.table → r.refusal ≡ number_of no_node

@@ -5,6 +5,7 @@ use native.Mathlib.Omega.{arith}
 use mathlib.Core.Path.{◌≡◌, refl, ap, ◌∙◌}
 use mathlib.Core.List.{List}
 use lib.ListN.{length}
+use Rattle.std.specs.Prelude.{Option, Some, None, Result, Ok, Err}
 use Rattle.rule.specs.Lists.{Maybe, none, some}
 use Rattle.image.specs.Words.{part}
 use Rattle.image.specs.Refusals.{Answer, refused, given, number_of, refusal_of}
@@ -19,13 +20,12 @@ use Rattle.capi.specs.Plain.{Plainly}
 use Rattle.capi.specs.Memtable.{plain_view}
 use Rattle.capi.specs.DbIter.{side_number}
 use Rattle.capi.specs.RowViews.{plain_row_view, numbered}
-use Rattle.table.specs.declared.entry_views.SpanOn.{SpanOn}
-use Rattle.table.specs.declared.entry_views.SpanOn.TheVariants as span
+use Rattle.table.specs.declared.refusals.Refusal.{Refusal}
+use Rattle.table.specs.declared.entry_views.Span.{Span as SpanHere}
 use Rattle.cursor.specs.declared.places.Side.{Side}
 use Rattle.cursor.specs.declared.places.Side.TheVariants.{First, Second}
 use Rattle.cursor.specs.declared.places.Cursor.{Cursor as Visible}
 use Rattle.cursor.specs.declared.row_views.RowSpan.{RowSpan}
-use Rattle.cursor.specs.declared.row_views.RowSpan.TheVariants as row
 use Rattle.capi.specs.declared.memtable.BavoView.{BavoView}
 use Rattle.capi.specs.declared.row_views.BavoRowView.{BavoRowView}
 
@@ -36,10 +36,10 @@ unfoldable pub view_of : Answer Span → BavoView
 view_of (refused q) = record { refusal = number_of q; offset = 0; length = 0 }
 view_of (given s) = record { refusal = 0; offset = s.at; length = s.len }
 
-plain_view_lem : (a : SpanOn) → plain_view a ≡ view_of (span_as a)
+plain_view_lem : (a : Result SpanHere Refusal) → plain_view a ≡ view_of (span_as a)
 unfolding view_of
-plain_view_lem (span.At o n) = refl
-plain_view_lem (span.Refused q) = refl
+plain_view_lem (Ok s) = refl
+plain_view_lem (Err q) = refl
 
 part_shown : (xs : List ℕ) (v : Answer Span) → part xs (view_of v).offset (view_of v).length ≡ viewed xs v
 unfolding view_of
@@ -51,9 +51,9 @@ unfolding view_of
 number_shown (refused q) = refl
 number_shown (given s) = refl
 
-plain_lies : (xs : List ℕ) (a : SpanOn) → SpanLies xs a → (plain_view a).offset + (plain_view a).length ≤ length xs
-plain_lies xs (span.At o n) l = l
-plain_lies xs (span.Refused q) l = omega arith
+plain_lies : (xs : List ℕ) (a : Result SpanHere Refusal) → SpanLies xs a → (plain_view a).offset + (plain_view a).length ≤ length xs
+plain_lies xs (Ok s) l = l
+plain_lies xs (Err q) l = omega arith
 
 module _ (xs : List ℕ) (v : Answer Span) {r : BavoView} (p : Plainly plain_view (λ a. Spans xs v a) r) where
   -- the struct is fixed
@@ -89,11 +89,11 @@ row_view_of (refused q) = record { refusal = number_of q; table = 0; offset = 0;
 row_view_of (given none) = record { refusal = 0; table = 0; offset = 0; length = 0 }
 row_view_of (given (some p)) = record { refusal = 0; table = side_number p.side; offset = p.span.at; length = p.span.len }
 
-plain_row : (a : RowSpan) → plain_row_view a ≡ row_view_of (row_span_as a)
+plain_row : (a : Result (Option RowSpan) Refusal) → plain_row_view a ≡ row_view_of (row_span_as a)
 unfolding row_view_of
-plain_row row.Nowhere = refl
-plain_row (row.In side o n) = refl
-plain_row (row.Refused q) = refl
+plain_row (Ok None) = refl
+plain_row (Ok (Some s)) = refl
+plain_row (Err q) = refl
 
 row_part : (f g : List ℕ) (a : Answer (Maybe PartIn)) → part (numbered (row_view_of a).table f g) (row_view_of a).offset (row_view_of a).length ≡ part_bytes f g a
 unfolding row_view_of
@@ -107,10 +107,10 @@ row_number (refused q) = refl
 row_number (given none) = refl
 row_number (given (some p)) = refl
 
-row_lies : (f g : List ℕ) (a : RowSpan) → RowSpanLies f g a → (plain_row_view a).offset + (plain_row_view a).length ≤ length (numbered (plain_row_view a).table f g)
-row_lies f g row.Nowhere l = omega arith
-row_lies f g (row.In side o n) l = rw (numbered_side side f g) l
-row_lies f g (row.Refused q) l = omega arith
+row_lies : (f g : List ℕ) (a : Result (Option RowSpan) Refusal) → RowSpanLies f g a → (plain_row_view a).offset + (plain_row_view a).length ≤ length (numbered (plain_row_view a).table f g)
+row_lies f g (Ok None) l = omega arith
+row_lies f g (Ok (Some s)) l = rw (numbered_side s.table f g) l
+row_lies f g (Err q) l = omega arith
 
 module _ (v : View) (f g : List ℕ) (c : Visible) {r : BavoRowView} (p : Plainly plain_row_view (λ a. RowSpans v f g c a) r) where
   -- the struct is fixed

@@ -6,11 +6,12 @@ ghost use Rattle.cursor.specs.Moves.{Moves};
 ghost use Rattle.capi.specs.Plain.{Plainly};
 ghost use Rattle.capi.specs.DbIter.{side_number, cursor_of, plain_moved, plain_pair_lookup};
 
-use cursor::db_iter::Moved;
 use cursor::merging_iter::{PairLookup, get_pair};
 use cursor::places::{Cursor, Place, Side};
+use table::memtable_iter::Stays;
+use table::refusals::Refusal;
 
-// The number of a table: 1 the first, 2 the second.
+// The number of a table, which the header fixes: 1 the first, 2 the second. Neither type is of this crate, so it is no From.
 pub(crate) fn side_number(side: Side) -> u32
     ensures { result ≡ side_number side }
 {
@@ -31,37 +32,25 @@ pub struct BavoPairLookup {
     pub looks: usize,
 }
 
-// An answer without a place.
-fn placeless(refusal: u32, answer: u32, looks: usize) -> BavoPairLookup
-    ensures { result ≡ record { refusal = refusal; answer = answer; table = 0; node = 0; looks = looks } }
-{
-    BavoPairLookup {
-        refusal,
-        answer,
-        table: 0,
-        node: 0,
-        looks,
-    }
-}
+impl From<Result<PairLookup, Refusal>> for BavoPairLookup {
+    ghost from_gives = { λ a r. r ≡ plain_pair_lookup a };
 
-// The answer of a lookup in a pair as a struct.
-fn plain_pair_lookup(a: PairLookup) -> BavoPairLookup
-    ensures { result ≡ plain_pair_lookup a }
-{
-    match a {
-        PairLookup::Found { place, looks } => {
-            let side = place.table;
-            BavoPairLookup {
-                refusal: 0,
-                answer: 1,
-                table: side_number(side),
-                node: place.node,
-                looks,
+    fn from(a: Result<PairLookup, Refusal>) -> BavoPairLookup {
+        let (refusal, answer, table, node, looks) = match a {
+            Ok(PairLookup::Found { place, looks }) => {
+                (0, 1, side_number(place.table), place.node, looks)
             }
+            Ok(PairLookup::Deleted { looks }) => (0, 2, 0, 0, looks),
+            Ok(PairLookup::Absent { looks }) => (0, 0, 0, 0, looks),
+            Err(q) => (q.number(), 0, 0, 0, 0),
+        };
+        BavoPairLookup {
+            refusal,
+            answer,
+            table,
+            node,
+            looks,
         }
-        PairLookup::Deleted { looks } => placeless(0, 2, looks),
-        PairLookup::Absent { looks } => placeless(0, 0, looks),
-        PairLookup::Refused(q) => placeless(q.number(), 0, 0),
     }
 }
 
@@ -69,7 +58,7 @@ fn plain_pair_lookup(a: PairLookup) -> BavoPairLookup
 pub fn bavo_pair_get(first: &[u8], second: &[u8], key: &[u8], snapshot: u64) -> BavoPairLookup
     ensures { Plainly plain_pair_lookup (λ a. GetsPair first.now second.now key.now snapshot a) result }
 {
-    plain_pair_lookup(get_pair(first, second, key, snapshot))
+    BavoPairLookup::from(get_pair(first, second, key, snapshot))
 }
 
 // A visible cursor: 0 nowhere, 1 on the node of the first table, 2 of the second.
@@ -81,28 +70,18 @@ pub struct BavoCursor {
 }
 
 // The cursor that is meant; a number above 2 is on node 0, which no table has.
-pub(crate) fn cursor_of(at: BavoCursor) -> Cursor
-    ensures { result ≡ cursor_of at }
-{
-    if at.table == 0 {
-        return Cursor::Nowhere;
+impl From<BavoCursor> for Cursor {
+    ghost from_gives = { λ at c. c ≡ cursor_of at };
+
+    fn from(at: BavoCursor) -> Cursor {
+        let (table, node) = match at.table {
+            0 => return Cursor::Nowhere,
+            1 => (Side::First, at.node),
+            2 => (Side::Second, at.node),
+            _ => (Side::First, 0),
+        };
+        Cursor::On(Place { table, node })
     }
-    if at.table == 1 {
-        return Cursor::On(Place {
-            table: Side::First,
-            node: at.node,
-        });
-    }
-    if at.table == 2 {
-        return Cursor::On(Place {
-            table: Side::Second,
-            node: at.node,
-        });
-    }
-    Cursor::On(Place {
-        table: Side::First,
-        node: 0,
-    })
 }
 
 // Where a move leads; a refused one hands back the cursor exactly as it was handed.
@@ -114,30 +93,25 @@ pub struct BavoMoved {
     pub node: usize,
 }
 
-// A move's answer as a struct.
-fn plain_moved(at: BavoCursor, a: Moved) -> BavoMoved
+// A move's answer as a struct; a refused one has the numbers of the cursor as they were, so this is no From.
+fn plain_moved(at: BavoCursor, a: Result<Cursor, Stays<Cursor>>) -> BavoMoved
     ensures { result ≡ plain_moved at a }
 {
     match a {
-        Moved::Refused(q, _) => BavoMoved {
-            refusal: q.number(),
+        Ok(Cursor::Nowhere) => BavoMoved {
+            refusal: 0,
+            table: 0,
+            node: 0,
+        },
+        Ok(Cursor::On(p)) => BavoMoved {
+            refusal: 0,
+            table: side_number(p.table),
+            node: p.node,
+        },
+        Err(stays) => BavoMoved {
+            refusal: stays.why.number(),
             table: at.table,
             node: at.node,
-        },
-        Moved::To(c) => match c {
-            Cursor::Nowhere => BavoMoved {
-                refusal: 0,
-                table: 0,
-                node: 0,
-            },
-            Cursor::On(p) => {
-                let side = p.table;
-                BavoMoved {
-                    refusal: 0,
-                    table: side_number(side),
-                    node: p.node,
-                }
-            }
         },
     }
 }
@@ -148,7 +122,7 @@ pub fn bavo_first<'a>(first: &'a [u8], second: &'a [u8], snapshot: u64, at: Bavo
 {
     plain_moved(
         at,
-        cursor::db_iter::first(first, second, snapshot, cursor_of(at)),
+        cursor::db_iter::first(first, second, snapshot, Cursor::from(at)),
     )
 }
 
@@ -164,7 +138,7 @@ pub fn bavo_seek<'a>(
 {
     plain_moved(
         at,
-        cursor::db_iter::seek(first, second, snapshot, cursor_of(at), key),
+        cursor::db_iter::seek(first, second, snapshot, Cursor::from(at), key),
     )
 }
 
@@ -174,7 +148,7 @@ pub fn bavo_next<'a>(first: &'a [u8], second: &'a [u8], snapshot: u64, at: BavoC
 {
     plain_moved(
         at,
-        cursor::db_iter::next(first, second, snapshot, cursor_of(at)),
+        cursor::db_iter::next(first, second, snapshot, Cursor::from(at)),
     )
 }
 
@@ -184,6 +158,6 @@ pub fn bavo_prev<'a>(first: &'a [u8], second: &'a [u8], snapshot: u64, at: BavoC
 {
     plain_moved(
         at,
-        cursor::db_iter::prev(first, second, snapshot, cursor_of(at)),
+        cursor::db_iter::prev(first, second, snapshot, Cursor::from(at)),
     )
 }

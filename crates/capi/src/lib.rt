@@ -1,5 +1,6 @@
 // The calls of include/bavolinesk.h. Each is one call of a lower crate whose answer is made a plain struct. None asks anything of its
-// caller but what a pointer and a length of C are, and each fixes its answer. The crate capi_c exports them.
+// caller but what a pointer and a length of C are, and each fixes its answer. The header has a
+// call and a struct for each cursor, for key and value, for one table and for two, and so has this. The crate capi_c exports them.
 #![tactic(auto)]
 
 pub mod memtable; // memtable.rt: the calls on one table

@@ -6,29 +6,28 @@ ghost use Rattle.table.specs.Memtable.{Freshens, Adds, Gets};
 ghost use Rattle.table.specs.Presence.{Contains, ShowsRow};
 ghost use Rattle.table.specs.Check.{Checked};
 ghost use Rattle.table.specs.EntryViews.{Spans};
+ghost use Rattle.table.specs.Refusals.{refusal_number};
 ghost use Rattle.capi.specs.Plain.{Plainly};
 ghost use Rattle.capi.specs.Memtable.{plain_freshened, plain_added, plain_presence, plain_lookup, plain_view};
 
 use table::check::check;
-use table::entry_views::{SpanOn, value_refusal, value_span};
-use table::memtable::{Added, Freshened, Lookup, add, fresh, get};
+use table::entry_views::{Span, value_refusal, value_span};
+use table::memtable::{Lookup, add, fresh, get};
 use table::presence::{Presence, contains, get_span};
+use table::refusals::Refusal;
 
-// The refusal's number, or 0.
-fn plain_freshened(a: Freshened) -> u32
-    ensures { result ≡ plain_freshened a }
+// The number of a refusal, or 0.
+pub(crate) fn refusal_or_0(refusal: Option<Refusal>) -> u32
+    ensures { result ≡ refusal_number refusal }
 {
-    match a {
-        Freshened::Done => 0,
-        Freshened::Refused(q) => q.number(),
-    }
+    refusal.map_or(0, |q| q.number())
 }
 
 // Makes an empty table of the image. Refusal 1.
 pub fn bavo_fresh(image: &mut [u8]) -> u32
     ensures { Plainly plain_freshened (λ a. Freshens image.old a image.new) result }
 {
-    plain_freshened(fresh(image))
+    refusal_or_0(fresh(image).err())
 }
 
 // What an addition answers; refused, the node is 0.
@@ -39,16 +38,17 @@ pub struct BavoAdded {
     pub node: usize,
 }
 
-// An addition's answer as a struct.
-fn plain_added(a: Added) -> BavoAdded
-    ensures { result ≡ plain_added a }
-{
-    match a {
-        Added::Node(node) => BavoAdded { refusal: 0, node },
-        Added::Refused(q) => BavoAdded {
-            refusal: q.number(),
-            node: 0,
-        },
+impl From<Result<usize, Refusal>> for BavoAdded {
+    ghost from_gives = { λ a r. r ≡ plain_added a };
+
+    fn from(a: Result<usize, Refusal>) -> BavoAdded {
+        match a {
+            Ok(node) => BavoAdded { refusal: 0, node },
+            Err(q) => BavoAdded {
+                refusal: q.number(),
+                node: 0,
+            },
+        }
     }
 }
 
@@ -63,7 +63,7 @@ pub fn bavo_add(
 ) -> BavoAdded
     ensures { Plainly plain_added (λ a. Adds image.old (entry key.now number kind value.now) height a image.new) result }
 {
-    plain_added(add(image, key, number, kind, value, height))
+    BavoAdded::from(add(image, key, number, kind, value, height))
 }
 
 // Whether the image is sound.
@@ -82,26 +82,22 @@ pub struct BavoPresence {
     pub looks: usize,
 }
 
-// The answer to a question for presence as a struct.
-fn plain_presence(a: Presence) -> BavoPresence
-    ensures { result ≡ plain_presence a }
-{
-    match a {
-        Presence::Held { looks } => BavoPresence {
-            refusal: 0,
-            held: 1,
-            looks,
-        },
-        Presence::NotHeld { looks } => BavoPresence {
-            refusal: 0,
-            held: 0,
-            looks,
-        },
-        Presence::Refused(q) => BavoPresence {
-            refusal: q.number(),
-            held: 0,
-            looks: 0,
-        },
+impl From<Result<Presence, Refusal>> for BavoPresence {
+    ghost from_gives = { λ a r. r ≡ plain_presence a };
+
+    fn from(a: Result<Presence, Refusal>) -> BavoPresence {
+        match a {
+            Ok(presence) => BavoPresence {
+                refusal: 0,
+                held: u32::from(presence.held),
+                looks: presence.looks,
+            },
+            Err(q) => BavoPresence {
+                refusal: q.number(),
+                held: 0,
+                looks: 0,
+            },
+        }
     }
 }
 
@@ -109,7 +105,7 @@ fn plain_presence(a: Presence) -> BavoPresence
 pub fn bavo_contains(image: &[u8], key: &[u8], number: u64, kind: u8) -> BavoPresence
     ensures { Plainly plain_presence (λ a. Contains image.now key.now number kind a) result }
 {
-    plain_presence(contains(image, key, number, kind))
+    BavoPresence::from(contains(image, key, number, kind))
 }
 
 // What a lookup answers: 0 absent, 1 found at the node, 2 deleted.
@@ -122,35 +118,22 @@ pub struct BavoLookup {
     pub looks: usize,
 }
 
-// A lookup's answer as a struct.
-fn plain_lookup(a: Lookup) -> BavoLookup
-    ensures { result ≡ plain_lookup a }
-{
-    match a {
-        Lookup::Found { node, looks } => BavoLookup {
-            refusal: 0,
-            answer: 1,
+impl From<Result<Lookup, Refusal>> for BavoLookup {
+    ghost from_gives = { λ a r. r ≡ plain_lookup a };
+
+    fn from(a: Result<Lookup, Refusal>) -> BavoLookup {
+        let (refusal, answer, node, looks) = match a {
+            Ok(Lookup::Found { node, looks }) => (0, 1, node, looks),
+            Ok(Lookup::Deleted { looks }) => (0, 2, 0, looks),
+            Ok(Lookup::Absent { looks }) => (0, 0, 0, looks),
+            Err(q) => (q.number(), 0, 0, 0),
+        };
+        BavoLookup {
+            refusal,
+            answer,
             node,
             looks,
-        },
-        Lookup::Deleted { looks } => BavoLookup {
-            refusal: 0,
-            answer: 2,
-            node: 0,
-            looks,
-        },
-        Lookup::Absent { looks } => BavoLookup {
-            refusal: 0,
-            answer: 0,
-            node: 0,
-            looks,
-        },
-        Lookup::Refused(q) => BavoLookup {
-            refusal: q.number(),
-            answer: 0,
-            node: 0,
-            looks: 0,
-        },
+        }
     }
 }
 
@@ -158,7 +141,7 @@ fn plain_lookup(a: Lookup) -> BavoLookup
 pub fn bavo_get(image: &[u8], key: &[u8], snapshot: u64) -> BavoLookup
     ensures { Plainly plain_lookup (λ a. Gets image.now key.now snapshot a) result }
 {
-    plain_lookup(get(image, key, snapshot))
+    BavoLookup::from(get(image, key, snapshot))
 }
 
 // A part of the image; refused, nowhere, without a row and of a deletion's value it is the empty part at 0.
@@ -170,21 +153,22 @@ pub struct BavoView {
     pub length: usize,
 }
 
-// Where a view stands as a struct.
-pub(crate) fn plain_view(a: SpanOn) -> BavoView
-    ensures { result ≡ plain_view a }
-{
-    match a {
-        SpanOn::At { at, len } => BavoView {
-            refusal: 0,
-            offset: at,
-            length: len,
-        },
-        SpanOn::Refused(q) => BavoView {
-            refusal: q.number(),
-            offset: 0,
-            length: 0,
-        },
+impl From<Result<Span, Refusal>> for BavoView {
+    ghost from_gives = { λ a r. r ≡ plain_view a };
+
+    fn from(a: Result<Span, Refusal>) -> BavoView {
+        match a {
+            Ok(span) => BavoView {
+                refusal: 0,
+                offset: span.at,
+                length: span.len,
+            },
+            Err(q) => BavoView {
+                refusal: q.number(),
+                offset: 0,
+                length: 0,
+            },
+        }
     }
 }
 
@@ -192,14 +176,14 @@ pub(crate) fn plain_view(a: SpanOn) -> BavoView
 pub fn bavo_value(image: &[u8], node: usize) -> BavoView
     ensures { Plainly plain_view (λ a. Spans image.now (value_view image.now (on node)) a) result }
 {
-    plain_view(value_span(image, node))
+    BavoView::from(value_span(image, node))
 }
 
 // Its companion.
 pub fn bavo_value_refusal(image: &[u8], node: usize) -> u32
     ensures { result ≡ view_refusal image.now (on node) }
 {
-    value_refusal(image, node)
+    refusal_or_0(value_refusal(image, node))
 }
 
 // The value of a key at a snapshot, in one call. A value, an empty one too, stands behind the header; where the key has no row it
@@ -207,5 +191,5 @@ pub fn bavo_value_refusal(image: &[u8], node: usize) -> u32
 pub fn bavo_get_value(image: &[u8], key: &[u8], snapshot: u64) -> BavoView
     ensures { Plainly plain_view (λ a. ShowsRow image.now key.now snapshot a) result }
 {
-    plain_view(get_span(image, key, snapshot))
+    BavoView::from(get_span(image, key, snapshot))
 }

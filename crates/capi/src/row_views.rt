@@ -7,8 +7,11 @@ ghost use Rattle.capi.specs.Plain.{Plainly};
 ghost use Rattle.capi.specs.DbIter.{cursor_of};
 ghost use Rattle.capi.specs.RowViews.{plain_row_view};
 
-use crate::db_iter::{BavoCursor, cursor_of, side_number};
+use crate::db_iter::{BavoCursor, side_number};
+use crate::memtable::refusal_or_0;
+use cursor::places::Cursor;
 use cursor::row_views::{RowSpan, row_key_span, row_refusal, row_value_span};
+use table::refusals::Refusal;
 
 // A part of the first image (1) or of the second (2). Nowhere, and refused, there is none: 0, 0, 0.
 #[repr(C)]
@@ -20,29 +23,21 @@ pub struct BavoRowView {
     pub length: usize,
 }
 
-// Where a row's view stands as a struct.
-fn plain_row_view(a: RowSpan) -> BavoRowView
-    ensures { result ≡ plain_row_view a }
-{
-    match a {
-        RowSpan::Nowhere => BavoRowView {
-            refusal: 0,
-            table: 0,
-            offset: 0,
-            length: 0,
-        },
-        RowSpan::In { table, at, len } => BavoRowView {
-            refusal: 0,
-            table: side_number(table),
-            offset: at,
-            length: len,
-        },
-        RowSpan::Refused(q) => BavoRowView {
-            refusal: q.number(),
-            table: 0,
-            offset: 0,
-            length: 0,
-        },
+impl From<Result<Option<RowSpan>, Refusal>> for BavoRowView {
+    ghost from_gives = { λ a r. r ≡ plain_row_view a };
+
+    fn from(a: Result<Option<RowSpan>, Refusal>) -> BavoRowView {
+        let (refusal, table, offset, length) = match a {
+            Ok(None) => (0, 0, 0, 0),
+            Ok(Some(part)) => (0, side_number(part.table), part.span.at, part.span.len),
+            Err(q) => (q.number(), 0, 0, 0),
+        };
+        BavoRowView {
+            refusal,
+            table,
+            offset,
+            length,
+        }
     }
 }
 
@@ -50,19 +45,19 @@ fn plain_row_view(a: RowSpan) -> BavoRowView
 pub fn bavo_row_key<'a>(first: &'a [u8], second: &'a [u8], at: BavoCursor) -> BavoRowView
     ensures { Plainly plain_row_view (λ a. RowSpans key_view first.now second.now (cursor_of at) a) result }
 {
-    plain_row_view(row_key_span(first, second, cursor_of(at)))
+    BavoRowView::from(row_key_span(first, second, Cursor::from(at)))
 }
 
 // The value at a cursor; a deletion's is empty. Refusals 1 (first table, then second), 10, 9.
 pub fn bavo_row_value<'a>(first: &'a [u8], second: &'a [u8], at: BavoCursor) -> BavoRowView
     ensures { Plainly plain_row_view (λ a. RowSpans value_view first.now second.now (cursor_of at) a) result }
 {
-    plain_row_view(row_value_span(first, second, cursor_of(at)))
+    BavoRowView::from(row_value_span(first, second, Cursor::from(at)))
 }
 
 // The companion of the two.
 pub fn bavo_row_refusal<'a>(first: &'a [u8], second: &'a [u8], at: BavoCursor) -> u32
     ensures { Refuses first.now second.now (cursor_of at) result }
 {
-    row_refusal(first, second, cursor_of(at))
+    refusal_or_0(row_refusal(first, second, Cursor::from(at)))
 }

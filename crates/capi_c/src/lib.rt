@@ -1,4 +1,5 @@
-// The library for C: exports the calls of capi, each under its name and with its clauses.
+// The library for C: exports the calls of capi, each under its name and with its clauses, which stand here again since a crate is a
+// library for Rattle or one for C.
 #![tactic(auto)]
 
 pub mod memtable; // memtable.rt: the calls on one table

@@ -88,7 +88,8 @@ pub fn presence(r: BavoPresence, out: &mut String) -> Result<(), AllocError> {
     write!(out, "{held} looks {}", r.looks)
 }
 
-// What a move of either cursor answered: a refusal's number, and the cursor in C's two numbers. Refused, it is the one that was handed.
+// What a move of either cursor answered: a refusal's number, and the cursor in C's two numbers, as C's structs have them and as a
+// caller writes them down. Refused, it is the one that was handed.
 #[derive(Clone, Copy, Debug)]
 pub struct Moved {
     refusal: u32,

@@ -9,7 +9,8 @@ use capi::db_iter::BavoCursor;
 use capi::entry_iter::BavoEntryCursor;
 use std::alloc::Global;
 
-// The lines about one table, which their second word names.
+// The lines about one table, which their second word names. The heap comes first and what is written last, as in the library's calls;
+// neither belongs to the state.
 fn follow_on(
     alloc: Global,
     words: &[&[u8]],

@@ -60,18 +60,18 @@ fn front(answer: &str) -> &[u8]
 
 // A run over a text: where it writes, what lines carry from one to the next, and the counts.
 #[derive(Drop)]
-struct Session<W> {
+struct Run<W> {
     alloc: Global,
     to: W,
     state: State,
     tally: Tally,
 }
 
-impl<W: Write + Drop> Session<W> {
-    fn new(alloc: Global, to: W) -> Result<Session<W>, AllocError> {
+impl<W: Write + Drop> Run<W> {
+    fn new(alloc: Global, to: W) -> Result<Run<W>, AllocError> {
         let state = State::new(alloc)?;
         let tally = Tally::default();
-        Ok(Session {
+        Ok(Run {
             alloc,
             to,
             state,
@@ -133,5 +133,5 @@ fn main(rt: HostRuntime) -> io::Result<()> {
     let alloc = rt.alloc();
     let mut text = Vec::new(alloc);
     rt.reader().take(TOO_LONG as u64).read_to_end(&mut text)?;
-    Session::new(alloc, io::writer(&rt))?.text(text.as_slice())
+    Run::new(alloc, io::writer(&rt))?.text(text.as_slice())
 }

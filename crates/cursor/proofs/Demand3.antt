@@ -5,7 +5,8 @@ use mathlib.Core.List.{List, [], ◌∷◌, ◌++◌, nil≢cons, cons≢nil, he
 use mathlib.Core.Bool.{Bool, true, false}
 use lib.ListN.{length}
 use lib.Dec.{leb, eqb}
-use borrow.Author.Tests.{leb-true, leb-false}
+use borrow.Author.Tests.{leb-true}
+use Rattle.std.specs.Prelude.{Result, Ok, Err}
 use Rattle.rule.specs.Lists.{cond, Maybe, none, some}
 use Rattle.rule.specs.Entries.{Entry, Agree, Single, value_kind}
 use Rattle.rule.specs.Rows.{newest}
@@ -24,14 +25,14 @@ use Rattle.image.proofs.Held.{held_single}
 use Rattle.image.proofs.Views.{value_shown}
 use Rattle.table.specs.Memtable.{lookup_as, Gets}
 use Rattle.table.specs.Growth.{Additions, Filled}
+use Rattle.table.specs.declared.refusals.Refusal.{Refusal}
 use Rattle.table.specs.declared.memtable.Lookup.{Lookup}
 use Rattle.table.specs.declared.memtable.Lookup.TheVariants as lookup
-use Rattle.table.proofs.MemtableLaws.{get_number, get_key}
 use Rattle.table.proofs.Growth.{additions_held, filled_sound, filled_held}
 use Rattle.cursor.specs.Moves.{moved_as, Moves}
 use Rattle.cursor.specs.Runs.{Tables, entries_of, Shows, Moment, seen_in, Run, Alike, Lockstep, moves_in, Still, SameMembers, Later, Learnt, found, deleted, absent, refused, learnt}
 use Rattle.cursor.specs.declared.places.Cursor.{Cursor}
-use Rattle.cursor.specs.declared.db_iter.Moved.{Moved}
+use Rattle.table.specs.declared.memtable_iter.Stays.{Stays}
 use Rattle.cursor.proofs.Lockstep.{same_shown, same_move, whole_grown, entry_grown, run_whole, in_step}
 
 -- DEMAND 3. Fix a snapshot. Take two pairs of tables, each begun fresh and from then on changed by accepted additions alone. If at every move the entries
@@ -52,26 +53,36 @@ abbrev says_of : Answer one.Lookup → one.Looked
 says_of (given l) = l.says
 says_of (is.refused q) = one.absent
 
-learnt_rule : (xs k : List ℕ) (s : ℕ) (r : Lookup) → Sound xs → Gets xs k s r → s ≤ max_number → length k ≤ max_key → learnt xs r ≡ learnt_of (newest k s (held xs))
+learnt_rule : (xs k : List ℕ) (s : ℕ) (r : Result Lookup Refusal) → Sound xs → Gets xs k s r → s ≤ max_number → length k ≤ max_key → learnt xs r ≡ learnt_of (newest k s (held xs))
 learnt_rule xs k s r x g a b = let (l, e, t) = g.rule x a b in go r l e t
   where
-    go : (r : Lookup) (l : one.Lookup) → lookup_as r ≡ given l → Tells xs k s l.says → learnt xs r ≡ learnt_of (newest k s (held xs))
-    go (lookup.Found i looks) l e t = let (n, q, v) = rw (← ap says_of e) at t in rw (value_shown xs x i n, q, v)
-    go (lookup.Deleted looks) l e t = let (f, q, v) = rw (← ap says_of e) at t in rw (q, v)
-    go (lookup.Absent looks) l e t = rw (rw (← ap says_of e) at t)
-    go (lookup.Refused q) l e t = absurd (refused_given e)
+    go : (r : Result Lookup Refusal) (l : one.Lookup) → lookup_as r ≡ given l → Tells xs k s l.says → learnt xs r ≡ learnt_of (newest k s (held xs))
+    go (Ok (lookup.Found i looks)) l e t = let (n, q, v) = rw (← ap says_of e) at t in rw (value_shown xs x i n, q, v)
+    go (Ok (lookup.Deleted looks)) l e t = let (f, q, v) = rw (← ap says_of e) at t in rw (q, v)
+    go (Ok (lookup.Absent looks)) l e t = rw (rw (← ap says_of e) at t)
+    go (Err q) l e t = absurd (refused_given e)
 
 -- outside the limits the lookup is refused
-learnt_refused : (xs k : List ℕ) (s : ℕ) (r : Lookup) (q : is.Refusal) → Gets xs k s r → is.refused q ≡ get xs k s → learnt xs r ≡ refused (number_of q)
+learnt_refused : (xs k : List ℕ) (s : ℕ) (r : Result Lookup Refusal) (q : is.Refusal) → Gets xs k s r → is.refused q ≡ get xs k s → learnt xs r ≡ refused (number_of q)
 learnt_refused xs k s r q g e = go r (g.exact ∙ sym e)
   where
-    go : (r : Lookup) → lookup_as r ≡ is.refused q → learnt xs r ≡ refused (number_of q)
-    go (lookup.Found i looks) e = absurd (refused_given (sym e))
-    go (lookup.Deleted looks) e = absurd (refused_given (sym e))
-    go (lookup.Absent looks) e = absurd (refused_given (sym e))
-    go (lookup.Refused p) e = ap refused (ap is.refusal_of e)
+    go : (r : Result Lookup Refusal) → lookup_as r ≡ is.refused q → learnt xs r ≡ refused (number_of q)
+    go (Ok (lookup.Found i looks)) e = absurd (refused_given (sym e))
+    go (Ok (lookup.Deleted looks)) e = absurd (refused_given (sym e))
+    go (Ok (lookup.Absent looks)) e = absurd (refused_given (sym e))
+    go (Err p) e = ap refused (ap is.refusal_of e)
 
-pub same_lookup : (s : ℕ) (es fs : List Entry) (xs ys : List ℕ) → Filled es xs → Filled fs ys → Agree s es fs → (k : List ℕ) (r q : Lookup) → Gets xs k s r → Gets ys k s q → learnt xs r ≡ learnt ys q
+-- the two that a sound table gives
+module _ (xs k : List ℕ) (s : ℕ) (holds : header_holds xs ≡ true) where
+  number_refused : leb s max_number ≡ false → is.refused bad_number ≡ get xs k s
+  unfolding get
+  number_refused high = rw (holds, high)
+
+  key_refused : leb s max_number ≡ true → leb (length k) max_key ≡ false → is.refused long_key ≡ get xs k s
+  unfolding get
+  key_refused low long = rw (holds, low, long)
+
+pub same_lookup : (s : ℕ) (es fs : List Entry) (xs ys : List ℕ) → Filled es xs → Filled fs ys → Agree s es fs → (k : List ℕ) (r q : Result Lookup Refusal) → Gets xs k s r → Gets ys k s q → learnt xs r ≡ learnt ys q
 same_lookup s es fs xs ys a b agree k r q g h = go (leb s max_number) refl (leb (length k) max_key) refl
   where
     x : Sound xs
@@ -91,9 +102,10 @@ same_lookup s es fs xs ys a b agree k r q g h = go (leb s max_number) refl (leb 
 
     go : (m : Bool) → leb s max_number ≡ m → (n : Bool) → leb (length k) max_key ≡ n → learnt xs r ≡ learnt ys q
     go true m true n = let i = leb-true s max_number m in let j = leb-true (length k) max_key n in learnt_rule xs k s r x g i j ∙ ap learnt_of alike ∙ sym (learnt_rule ys k s q y h i j)
-    go true m false n = let j = leb-false (length k) max_key n in
-        learnt_refused xs k s r long_key g (get_key xs k s (holds xs x) (sym m) refl j) ∙ sym (learnt_refused ys k s q long_key h (get_key ys k s (holds ys y) (sym m) refl j))
-    go false m n o = learnt_refused xs k s r bad_number g (get_number xs k s (holds xs x) (sym m) refl) ∙ sym (learnt_refused ys k s q bad_number h (get_number ys k s (holds ys y) (sym m) refl))
+    go true m false n =
+        learnt_refused xs k s r long_key g (key_refused xs k s (holds xs x) m n) ∙ sym (learnt_refused ys k s q long_key h (key_refused ys k s (holds ys y) m n))
+    go false m n o =
+        learnt_refused xs k s r bad_number g (number_refused xs k s (holds xs x) m) ∙ sym (learnt_refused ys k s q bad_number h (number_refused ys k s (holds ys y) m))
 
 -- ---- what changes no row: a string of moves over tables that were filled, and then left as they are
 
@@ -134,7 +146,7 @@ module _ (s : ℕ) (t u : Tables) {t' u' : Tables} {c d : Cursor} {ms ns : List 
 
 pub between_hidden : (s : ℕ) {t u : Tables} {c : Cursor} {ms : List Moment} {es fs : List Entry}
     → Run s t c ms → Single s (entries_of t) → Additions t.first es u.first → Later s es → Additions t.second fs u.second → Later s fs
-    → (v : Move) (r q : Moved) (w z : Maybe Row) → Moves v t.first t.second s c r → Shows t (moved_as r).cursor w → Moves v u.first u.second s c q
+    → (v : Move) (r q : Result Cursor (Stays Cursor)) (w z : Maybe Row) → Moves v t.first t.second s c r → Shows t (moved_as r).cursor w → Moves v u.first u.second s c q
     → Shows u (moved_as q).cursor z → ((moved_as r).refusal ≡ (moved_as q).refusal) × (w ≡ z)
 between_hidden s {t} {u} {c} {ms} {es} {fs} run single a i b j v r q w z x p y o =
     let h = run_whole run in

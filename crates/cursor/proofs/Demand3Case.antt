@@ -7,6 +7,7 @@ use mathlib.Core.Logic.{inl}
 use mathlib.Core.List.{List, [], ◌∷◌, ◌++◌, Memᴰ}
 use mathlib.Core.Bool.{true, false≢true}
 use lib.ListN.{length, replicate}
+use Rattle.std.specs.Prelude.{Ok}
 use Rattle.rule.specs.Lists.{Maybe, none, some, All}
 use Rattle.rule.specs.Order.{compare_keys, compare_entries}
 use Rattle.rule.specs.Entries.{Entry, Agree, Single, value_kind}
@@ -29,7 +30,6 @@ use Rattle.table.specs.Growth.{Begun, Additions}
 use Rattle.table.specs.Growth as growth
 use Rattle.table.proofs.MemtableLaws.{fresh_done, adds}
 use Rattle.table.proofs.Growth.{add_keeps, add_node, begun_sound, additions_grow, additions_held, filled_held}
-use Rattle.table.specs.declared.memtable.Added.TheVariants as added
 use Rattle.cursor.specs.Places.{image_of, place, entry_at, held_before, PlaceIn}
 use Rattle.cursor.specs.Moves.{key_given, start_key, Ahead}
 use Rattle.cursor.specs.Rows.{value_in}
@@ -39,7 +39,6 @@ use Rattle.cursor.specs.declared.places.Side.TheVariants.{First, Second}
 use Rattle.cursor.specs.declared.places.Place.{Place}
 use Rattle.cursor.specs.declared.places.Cursor.{Cursor}
 use Rattle.cursor.specs.declared.places.Cursor.TheVariants.{Nowhere, On}
-use Rattle.cursor.specs.declared.db_iter.Moved.TheVariants.{To}
 use Rattle.image.proofs.Views.{view_accepted}
 use Rattle.cursor.proofs.Merging.{sound_of, known}
 use Rattle.cursor.proofs.Rows.{key_rule, value_rule, shows_key, shows_value}
@@ -100,25 +99,25 @@ freshly : (xs : List ℕ) → 64 ≤ length xs → length xs ≤ 65536 → Begun
 freshly xs m n = record { lent = xs; made = fresh_done xs m n (fresh_image xs) refl }
 
 -- and the additions are accepted: this alone is computed from the bytes
-pub adding_a : Adds f0 (put a 1 x) 1 (added.Node 1) f1
+pub adding_a : Adds f0 (put a 1 x) 1 (Ok 1) f1
 unfolding compare_keys compare_entries header_holds add find look word put_word put_words link_of height_of entry_of node_written written len_at keyed_at rest_at encode lead_at
-adding_a = adds f0 (put a 1 x) 1 (added.Node 1) f1 refl refl
+adding_a = adds f0 (put a 1 x) 1 (Ok 1) f1 refl refl
 
-adding_later : Adds f1 (gone a 7) 2 (added.Node 2) f2
+adding_later : Adds f1 (gone a 7) 2 (Ok 2) f2
 unfolding compare_keys compare_entries header_holds add find look word put_word put_words link_of height_of entry_of node_written written len_at keyed_at rest_at encode lead_at
-adding_later = adds f1 (gone a 7) 2 (added.Node 2) f2 refl refl
+adding_later = adds f1 (gone a 7) 2 (Ok 2) f2 refl refl
 
-adding_b : Adds g0 (put b 2 y) 2 (added.Node 1) g1
+adding_b : Adds g0 (put b 2 y) 2 (Ok 1) g1
 unfolding compare_keys compare_entries header_holds add find look word put_word put_words link_of height_of entry_of node_written written len_at keyed_at rest_at encode lead_at
-adding_b = adds g0 (put b 2 y) 2 (added.Node 1) g1 refl refl
+adding_b = adds g0 (put b 2 y) 2 (Ok 1) g1 refl refl
 
-adding_b' : Adds q0 (put b 2 y) 1 (added.Node 1) q1
+adding_b' : Adds q0 (put b 2 y) 1 (Ok 1) q1
 unfolding compare_keys compare_entries header_holds add find look word put_word put_words link_of height_of entry_of node_written written len_at keyed_at rest_at encode lead_at
-adding_b' = adds q0 (put b 2 y) 1 (added.Node 1) q1 refl refl
+adding_b' = adds q0 (put b 2 y) 1 (Ok 1) q1 refl refl
 
-adding_a' : Adds q1 (put a 1 x) 3 (added.Node 2) q2
+adding_a' : Adds q1 (put a 1 x) 3 (Ok 2) q2
 unfolding compare_keys compare_entries header_holds add find look word put_word put_words link_of height_of entry_of node_written written len_at keyed_at rest_at encode lead_at
-adding_a' = adds q1 (put a 1 x) 3 (added.Node 2) q2 refl refl
+adding_a' = adds q1 (put a 1 x) 3 (Ok 2) q2 refl refl
 
 pub add_a : Additions f0 (put a 1 x ∷ []) f1
 add_a = growth.more (put a 1 x) 1 1 adding_a growth.none
@@ -209,7 +208,7 @@ pub record Stands (t : Tables) (p : Place) (e : Entry) : Type 0 where
   pub entry : entry_at t.first t.second p ≡ e
 
 -- a node that was just added
-stands : (t : Tables) (side : Side) (xs : List ℕ) → Sound xs → (e : Entry) (h i : ℕ) → Adds xs e h (added.Node i) (image_of side t.first t.second) → Stands t (place side i) e
+stands : (t : Tables) (side : Side) (xs : List ℕ) → Sound xs → (e : Entry) (h i : ℕ) → Adds xs e h (Ok i) (image_of side t.first t.second) → Stands t (place side i) e
 stands t side xs s e h i d = let (n, q) = add_node xs s e h i (image_of side t.first t.second) d in record { inside = n; entry = q }
 
 pub left_a : Stands left (place First 1) (put a 1 x)
@@ -245,7 +244,7 @@ module _ {t : Tables} {c : Cursor} {ms : List Moment} (m : Run 2 t c ms) {u : Ta
       → (p : Place) (e : Entry) → Stands u p e → target v 2 k ds ≡ some e.key → newest e.key 2 ds ≡ some e → e.kind ≡ value_kind → Ahead v k e.key
       → All (λ d. fits e.key 2 d ≡ true → d.number < e.number) (held_before p.table u.first)
       → Run 2 u (On p) (moment u v e.key e.value ∷ ms)
-  goes v o ds d k q p e s z n w x l = moved u v (To (On p)) (some (record { key = e.key; value = e.value })) m i j (record {
+  goes v o ds d k q p e s z n w x l = moved u v (Ok (On p)) (some (record { key = e.key; value = e.value })) m i j (record {
     refused = λ r f. absurd (refused_given (sym f ∙ asked_whole u c whole 2 (key_given v) ∙ o));
     rule = λ _ _ _. rw (d, q, z) (p, refl, record { inside = s.inside; newest_is = rw (d, s.entry) n; value_is = rw s.entry w; first = rw s.entry l });
     lands = λ _. inl (

@@ -10,13 +10,6 @@ use Rattle.image.specs.Sound.{header_holds}
 use Rattle.image.specs.Refusals.{Answer, refused, demand, bad_image}
 use Rattle.cursor.specs.Going.{HeadersHold}
 
--- the answer of the test
-pub headers_bad : (f g : List ℕ) {a : Bool} → a ≡ header_holds f → not a ≡ true → false ≡ both (header_holds f) (header_holds g)
-headers_bad f g {a} e h = rw (← e, not-true a h)
-
-pub headers_second : (f g : List ℕ) {a b : Bool} → a ≡ header_holds f → not a ≡ false → b ≡ header_holds g → b ≡ both (header_holds f) (header_holds g)
-headers_second f g {a} e h d = rw (← e, not-false a h) d
-
 -- what it means for a call that asks 1 of the first table, then of the second
 module _ (f g : List ℕ) {b : Bool} (e : b ≡ both (header_holds f) (header_holds g)) where
   pub headers_hold : not b ≡ false → HeadersHold f g

@@ -6,6 +6,7 @@ use mathlib.Core.Bool.{true}
 use lib.ListN.{length}
 use lib.Dec.{leb}
 use borrow.Author.Tests.{le-leb}
+use Rattle.std.specs.Prelude.{Result}
 use Rattle.rule.specs.Lists.{Maybe, none, some}
 use Rattle.rule.specs.Entries.{Entry}
 use Rattle.rule.specs.Rows.{newest}
@@ -25,7 +26,7 @@ use Rattle.cursor.specs.Rows.{value_in}
 use Rattle.cursor.specs.Runs.{Tables, entries_of, Shows, Moment, seen_in, Run, begun, moved, Alike, Lockstep}
 use Rattle.cursor.specs.declared.places.Cursor.{Cursor}
 use Rattle.cursor.specs.declared.places.Cursor.TheVariants.{Nowhere, On}
-use Rattle.cursor.specs.declared.db_iter.Moved.{Moved}
+use Rattle.table.specs.declared.memtable_iter.Stays.{Stays}
 use Rattle.cursor.proofs.Growth.{cursor_kept, entry_stays}
 
 -- ---- one pair of tables with a cursor
@@ -100,7 +101,7 @@ pub same_shown : (t : Tables) (c : Cursor) (u : Tables) (d : Cursor) → Togethe
 same_shown t c u d b w z x y = shows_row t c b.left w x ∙ ap row_in b.same ∙ sym (shows_row u d b.right z y)
 
 -- one move
-module _ (t : Tables) (c : Cursor) (u : Tables) (d : Cursor) (b : Together t c u d) (s : ℕ) (a : Alike s (entries_of t) (entries_of u)) (v : Move) (r q : Moved)
+module _ (t : Tables) (c : Cursor) (u : Tables) (d : Cursor) (b : Together t c u d) (s : ℕ) (a : Alike s (entries_of t) (entries_of u)) (v : Move) (r q : Result Cursor (Stays Cursor))
     (x : Moves v t.first t.second s c r) (y : Moves v u.first u.second s d q) where
   -- both are refused alike, or lead to equal entries
   pub record Same : Type 0 where
@@ -147,7 +148,7 @@ entry_grown t u (On p) h a b = ap {B = Maybe Entry} some (entry_stays t.first t.
 -- ---- any number of moves
 
 -- one run: what a move hands back, refused or not, is in the tables
-moved_within : (t : Tables) (c : Cursor) → Whole t c → (s : ℕ) (v : Move) (r : Moved) → Moves v t.first t.second s c r → CursorIn t.first t.second (moved_as r).cursor
+moved_within : (t : Tables) (c : Cursor) → Whole t c → (s : ℕ) (v : Move) (r : Result Cursor (Stays Cursor)) → Moves v t.first t.second s c r → CursorIn t.first t.second (moved_as r).cursor
 moved_within t c h s v r x = go (asked t.first t.second s c (key_given v)) refl
   where
     go : (w : Answer {0} Unit) → asked t.first t.second s c (key_given v) ≡ w → CursorIn t.first t.second (moved_as r).cursor

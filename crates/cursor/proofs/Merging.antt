@@ -1,12 +1,14 @@
 -- The answers of two tables folded into one.
-use Prim.Native.Nat.{ℕ, ◌≤◌, ◌<◌}
+use Prim.Native.Nat.{ℕ}
 use native.Mathlib.Omega.{arith}
 use mathlib.Core.Path.{◌≡◌, refl, sym, subst, ◌∙◌}
 use mathlib.Core.Logic.{inl, inr}
 use mathlib.Core.List.{List}
+use Rattle.std.specs.Prelude.{Option, Some, None, Ok}
+use Rattle.std.specs.Option.{MatchOption, IsSomeAnd, option_map}
 use mathlib.Core.Bool.{Bool, true, false, false≢true}
 use lib.Dec.{ltb}
-use borrow.Author.Tests.{ltb-true, lt-ltb, le-ltb}
+use borrow.Author.Tests.{ltb-true}
 use Rattle.rule.specs.Lists.{cond, Maybe, none, some, All}
 use Rattle.rule.specs.Order.{is_less}
 use Rattle.rule.specs.Entries.{Entry}
@@ -19,29 +21,24 @@ use Rattle.rule.proofs.Nearest.{least_append}
 use Rattle.image.specs.Sound.{Sound, held}
 use Rattle.image.specs.EntryMoves.{on}
 use Rattle.image.specs.Nodes.{entry_of}
-use Rattle.image.specs.Refusals.{refused, damaged}
-use Rattle.image.specs.Cuts.{Cut, cmp_of, admits, nearest as nearest_in, NearLands}
-use Rattle.image.specs.Newest.{newest_at as newest_in, NewestLands}
+use Rattle.image.specs.Cuts.{Cut, cmp_of, admits, NearLands}
+use Rattle.image.specs.Newest.{NewestOn, NewestIs, NewestLands, NewestLandsOn}
 use Rattle.image.proofs.Nearest.{way}
 use Rattle.image.proofs.Landing.{key_read}
 use Rattle.image.proofs.Views.{key_shown}
-use Rattle.table.specs.Questions.{Nears, TellsNewest}
-use Rattle.table.specs.declared.questions.Hit.{Hit}
-use Rattle.table.specs.declared.questions.Hit.TheVariants as hit
-use Rattle.table.specs.declared.questions.NewestAt.{NewestAt}
-use Rattle.table.specs.declared.questions.NewestAt.TheVariants as newest_at
+use Rattle.table.specs.Questions.{version_of, Nears, TellsNewest}
+use Rattle.table.specs.KeyTypes.{code_of}
+use Rattle.table.specs.declared.key_types.Kind.{Kind}
+use Rattle.table.specs.declared.key_types.Kind.TheVariants.{Deletion, Value}
+use Rattle.table.specs.declared.memtable.Newest.{Newest}
 use Rattle.table.proofs.Laws.{number_told}
 use Rattle.cursor.specs.Places.{image_of, held_before, all_entries, place, entry_at, key_at, PlaceIn}
-use Rattle.cursor.specs.Merging.{number_at, met_at, met_in, nearer_of, sooner_of, HasNode, MeetingIn, NearDamaged, NearestOver, NearestOfAll, version_in, newer_of, kind_of, VersionIn, NewestDamaged, NewestOver, NewestOfAll}
+use Rattle.cursor.specs.Merging.{number_at, met_at, nearer_of, sooner_of, HasNode, MeetingIn, NearestOver, NearestOfAll, version_in, newer_of, NewestOver, NewestOfAll}
 use Rattle.cursor.specs.declared.places.Side.{Side}
 use Rattle.cursor.specs.declared.places.Side.TheVariants.{First, Second}
 use Rattle.cursor.specs.declared.places.Place.{Place}
 use Rattle.cursor.specs.declared.merging_iter.Meeting.{Meeting}
-use Rattle.cursor.specs.declared.merging_iter.Nearest.{Nearest}
-use Rattle.cursor.specs.declared.merging_iter.Nearest.TheVariants as nearest
 use Rattle.cursor.specs.declared.merging_iter.Version.{Version}
-use Rattle.cursor.specs.declared.merging_iter.Newest.{Newest}
-use Rattle.cursor.specs.declared.merging_iter.Newest.TheVariants as newer
 
 -- ---- what stands at a place
 
@@ -56,6 +53,14 @@ module _ (f g : List ℕ) (x : Sound f) (y : Sound g) where
 
   pub number_at_told : (p : Place) → PlaceIn f g p → number_at f g p ≡ (entry_at f g p).number
   number_at_told p n = number_told (image_of p.table f g) (sound_of p.table) p.node n
+
+-- ---- what one table answers, by what `map` says of it
+
+pub mapped : {A B : Type 0} (h : A → B) (o : Option A) (r : Option B) {P : A → B → Type 0} → MatchOption o (r ≡ None) (λ x. IsSomeAnd r (P x))
+    → ((x : A) (y : B) → P x y → y ≡ h x) → r ≡ option_map h o
+mapped h None r m same = m
+mapped h (Some x) (Some y) m same = rw (same x y m)
+mapped h (Some x) None m same = absurd m
 
 -- ---- the key that comes next
 
@@ -81,25 +86,20 @@ module _ (f g : List ℕ) (c : Cut) (t : List ℕ) where
   met_place First i = refl
   met_place Second i = refl
 
-  near_hurt : (side : Side) → nearest_in (image_of side f g) c t ≡ refused damaged → NearDamaged f g c t
-  near_hurt First e = inl e
-  near_hurt Second e = inr e
-
   -- one table's answer
-  met_over : (side : Side) (a : Hit) → Nears (image_of side f g) c t a → NearestOver (held (image_of side f g)) f g c t (met_in side a)
-  met_over side (hit.At i) n = record {
+  met_over : (side : Side) (a : Option ℕ) → Nears (image_of side f g) c t (Ok a) → NearestOver (held (image_of side f g)) f g c t (Ok (option_map (met_at side) a))
+  met_over side (Some i) n = record {
     rule = λ x y. subst (λ (p : Place). Least (cmp_of c) (admits c t) (held (image_of side f g)) (some (key_at f g p))) (met_place side i)
         (rw (key_told f g x y (place side i) n.lands.0) (n.rule (sound_of f g x y side)).1);
     lands = met_lands side i n.lands;
   }
-  met_over side hit.Nothing n = record { rule = λ x y. n.rule (sound_of f g x y side); lands = tt }
-  met_over side hit.Damaged n = record { rule = λ x y. n.rule (sound_of f g x y side); lands = near_hurt side (sym n.exact) }
+  met_over side None n = record { rule = λ x y. n.rule (sound_of f g x y side); lands = tt }
 
   join : (a b : Maybe (List ℕ)) → Least (cmp_of c) (admits c t) (held f) a → Least (cmp_of c) (admits c t) (held g) b → Least (cmp_of c) (admits c t) (all_entries f g) (sooner (cmp_of c) a b)
   join a b = least_append (cmp_of c) (way c) (admits c t) (held f) (held g) a b
 
-  nearer_over : (i j : ℕ) → NearestOver (held f) f g c t (nearest.At (met_at First i)) → NearestOver (held g) f g c t (nearest.At (met_at Second j))
-      → NearestOfAll f g c t (nearest.At (nearer_of (key_at f g) c (met_at First i) (met_at Second j)))
+  nearer_over : (i j : ℕ) → NearestOver (held f) f g c t (Ok (Some (met_at First i))) → NearestOver (held g) f g c t (Ok (Some (met_at Second j)))
+      → NearestOfAll f g c t (Ok (Some (nearer_of (key_at f g) c (met_at First i) (met_at Second j))))
   nearer_over i j a b = go (is_less (cmp_of c l k)) refl (is_less (cmp_of c k l)) refl (λ u v. join (some k) (some l) (a.rule u v) (b.rule u v))
     where
       k : List ℕ
@@ -113,7 +113,7 @@ module _ (f g : List ℕ) (c : Cut) (t : List ℕ) where
       same e = sym (key_read g j b.lands.reads.readable) ∙ sym e ∙ key_read f i a.lands.reads.readable
 
       go : (p : Bool) → is_less (cmp_of c l k) ≡ p → (q : Bool) → is_less (cmp_of c k l) ≡ q → (Sound f → Sound g → Least (cmp_of c) (admits c t) (all_entries f g) (some (cond p l k)))
-          → NearestOfAll f g c t (nearest.At (cond p (met_at Second j) (cond q (met_at First i) (record { place = place First i; first = true; second = true }))))
+          → NearestOfAll f g c t (Ok (Some (cond p (met_at Second j) (cond q (met_at First i) (record { place = place First i; first = true; second = true })))))
       go true e q d h = record { rule = h; lands = b.lands }
       go false e true d h = record { rule = h; lands = a.lands }
       go false e false d h = record {
@@ -128,32 +128,16 @@ module _ (f g : List ℕ) (c : Cut) (t : List ℕ) where
       }
 
   -- the sooner of both
-  sooner_over : (a b : Hit) → Nears f c t a → Nears g c t b → NearestOfAll f g c t (sooner_of (key_at f g) c (met_in First a) (met_in Second b))
-  sooner_over a b m n = go a b (met_over First a m) (met_over Second b n)
-    where
-      go : (a b : Hit) → NearestOver (held f) f g c t (met_in First a) → NearestOver (held g) f g c t (met_in Second b) → NearestOfAll f g c t (sooner_of (key_at f g) c (met_in First a) (met_in Second b))
-      go hit.Damaged b x y = record { rule = λ u v. absurd (x.rule u v); lands = x.lands }
-      go hit.Nothing hit.Damaged x y = record { rule = λ u v. absurd (y.rule u v); lands = y.lands }
-      go hit.Nothing hit.Nothing x y = record { rule = λ u v. join none none (x.rule u v) (y.rule u v); lands = tt }
-      go hit.Nothing (hit.At j) x y = record { rule = λ u v. join none (some (key_at f g (place Second j))) (x.rule u v) (y.rule u v); lands = y.lands }
-      go (hit.At i) hit.Damaged x y = record { rule = λ u v. absurd (y.rule u v); lands = y.lands }
-      go (hit.At i) hit.Nothing x y = record { rule = λ u v. join (some (key_at f g (place First i))) none (x.rule u v) (y.rule u v); lands = x.lands }
-      go (hit.At i) (hit.At j) x y = nearer_over i j x y
+  sooner_over : (a b : Option ℕ) → NearestOver (held f) f g c t (Ok (option_map (met_at First) a)) → NearestOver (held g) f g c t (Ok (option_map (met_at Second) b))
+      → NearestOfAll f g c t (Ok (sooner_of (key_at f g) c (option_map (met_at First) a) (option_map (met_at Second) b)))
+  sooner_over None None x y = record { rule = λ u v. join none none (x.rule u v) (y.rule u v); lands = tt }
+  sooner_over None (Some j) x y = record { rule = λ u v. join none (some (key_at f g (place Second j))) (x.rule u v) (y.rule u v); lands = y.lands }
+  sooner_over (Some i) None x y = record { rule = λ u v. join (some (key_at f g (place First i))) none (x.rule u v) (y.rule u v); lands = x.lands }
+  sooner_over (Some i) (Some j) x y = nearer_over i j x y
 
-  pub nearest_both : {p q r : Nearest} (a b : Hit) → Nears f c t a → p ≡ met_in First a → Nears g c t b → q ≡ met_in Second b → r ≡ sooner_of (key_at f g) c p q → NearestOfAll f g c t r
-  nearest_both a b x d y e h = rw (h, d, e) (sooner_over a b x y)
-
--- the nearer by cases
-module _ (key : Place → List ℕ) (c : Cut) (x y : Meeting) {k l : List ℕ} {b : Bool} (ek : k ≡ key x.place) (el : l ≡ key y.place) (eb : b ≡ is_less (cmp_of c l k)) where
-  pub nearer_second : b ≡ true → y ≡ nearer_of key c x y
-  nearer_second h = rw (← ek, ← el, ← eb, h)
-
-  module _ (h : b ≡ false) {d : Bool} (ed : d ≡ is_less (cmp_of c k l)) where
-    pub nearer_first : d ≡ true → x ≡ nearer_of key c x y
-    nearer_first z = rw (← ek, ← el, ← eb, h, ← ed, z)
-
-    pub nearer_both : d ≡ false → record { place = x.place; first = true; second = true } ≡ nearer_of key c x y
-    nearer_both z = rw (← ek, ← el, ← eb, h, ← ed, z)
+  pub nearest_both : {p q r : Option Meeting} (a b : Option ℕ) → Nears f c t (Ok a) → p ≡ option_map (met_at First) a → Nears g c t (Ok b) → q ≡ option_map (met_at Second) b
+      → r ≡ sooner_of (key_at f g) c p q → NearestOfAll f g c t (Ok r)
+  nearest_both a b x d y e h = rw (h, d, e) (sooner_over a b (met_over First a x) (met_over Second b y))
 
 -- ---- the newest entry of a key
 
@@ -162,48 +146,44 @@ pub known : (k : List ℕ) (s : ℕ) (es : List Entry) (n : Maybe Entry) → new
 known k s es n e = subst (NewestOf k s es) e (newest_is k s es)
 
 -- the answer is about the one table
-abbrev OnSide : Side → Newest → Type 0
-OnSide side (newer.At v) = v.place.table ≡ side
-OnSide side newer.Nothing = Unit
-OnSide side newer.Damaged = Unit
+abbrev OnSide : Side → Option Version → Type 0
+OnSide side (Some v) = v.place.table ≡ side
+OnSide side None = Unit
 
-on_side : (side : Side) {r : Newest} (a : NewestAt) → r ≡ version_in side a → OnSide side r
-on_side side a e = rw e (go a)
-  where
-    go : (a : NewestAt) → OnSide side (version_in side a)
-    go (newest_at.Value i) = refl
-    go (newest_at.Deletion i) = refl
-    go newest_at.Absent = tt
-    go newest_at.Damaged = tt
+on_side : (side : Side) (a : Option Newest) → OnSide side (option_map (version_in side) a)
+on_side side (Some a) = refl
+on_side side None = tt
+
+-- what is said of a node by its type
+module _ (xs k : List ℕ) (s i : ℕ) where
+  stands_on : (d : Kind) → NewestIs xs k s (version_of i d) → NewestOn xs k s (code_of d) i
+  stands_on Value n = n
+  stands_on Deletion n = n
+
+  lands_on : (d : Kind) → NewestLandsOn xs k s (version_of i d) → NewestLands xs k s (code_of d) i
+  lands_on Value n = n
+  lands_on Deletion n = n
 
 -- what holds of the first table's entries holds of those before a place of the second
 before_second : (f : List ℕ) (P : Entry → Type 0) (side : Side) → side ≡ Second → All P (held f) → All P (held_before side f)
 before_second f P side e h = rw e h
 
 module _ (f g : List ℕ) (k : List ℕ) (s : ℕ) where
-  version_lands : (side : Side) (i : ℕ) (b : Bool) → NewestLands (image_of side f g) k s (kind_of b) i → VersionIn f g k s (record { place = place side i; value = b })
-  version_lands side i b n = record { reads = record { inside = n.node; readable = n.readable }; key_is = n.key_is; number_most = n.number_most; kind_is = n.kind_is }
-
-  newest_hurt : (side : Side) → newest_in (image_of side f g) k s ≡ refused damaged → NewestDamaged f g k s
-  newest_hurt First e = inl e
-  newest_hurt Second e = inr e
-
   -- one table's answer
-  version_over : (side : Side) {r : Newest} (a : NewestAt) → TellsNewest (image_of side f g) k s a → r ≡ version_in side a → NewestOver (held (image_of side f g)) f g k s r
-  version_over side a n e = rw e (go a n)
-    where
-      go : (a : NewestAt) → TellsNewest (image_of side f g) k s a → NewestOver (held (image_of side f g)) f g k s (version_in side a)
-      go (newest_at.Value i) n = record { rule = λ x y. let o = n.rule (sound_of f g x y side) in (o.newest_is, o.kind_is); lands = version_lands side i true n.lands }
-      go (newest_at.Deletion i) n = record { rule = λ x y. let o = n.rule (sound_of f g x y side) in (o.newest_is, o.kind_is); lands = version_lands side i false n.lands }
-      go newest_at.Absent n = record { rule = λ x y. n.rule (sound_of f g x y side); lands = tt }
-      go newest_at.Damaged n = record { rule = λ x y. n.rule (sound_of f g x y side); lands = newest_hurt side (sym n.exact) }
+  version_over : (side : Side) (a : Option Newest) → TellsNewest (image_of side f g) k s (Ok a) → NewestOver (held (image_of side f g)) f g k s (Ok (option_map (version_in side) a))
+  version_over side (Some a) n = record {
+    rule = λ x y. let o = stands_on (image_of side f g) k s a.node a.kind (n.rule (sound_of f g x y side)) in (o.newest_is, o.kind_is);
+    lands = let o = lands_on (image_of side f g) k s a.node a.kind n.lands in
+        record { reads = record { inside = o.node; readable = o.readable }; key_is = o.key_is; number_most = o.number_most; kind_is = o.kind_is };
+  }
+  version_over side None n = record { rule = λ x y. n.rule (sound_of f g x y side); lands = tt }
 
   together : (a b : Maybe Entry) → newest k s (held f) ≡ a → newest k s (held g) ≡ b → newest k s (all_entries f g) ≡ latest a b
   together a b x y = newest_append k s (held f) (held g) ∙ rw (x, y)
 
   -- the newer of both; of equal numbers the first table's
-  newer_at : (v w : Version) → NewestOver (held f) f g k s (newer.At v) → NewestOver (held g) f g k s (newer.At w) → v.place.table ≡ First → w.place.table ≡ Second
-      → NewestOfAll f g k s (cond (ltb (number_at f g v.place) (number_at f g w.place)) (newer.At w) (newer.At v))
+  newer_at : (v w : Version) → NewestOver (held f) f g k s (Ok (Some v)) → NewestOver (held g) f g k s (Ok (Some w)) → v.place.table ≡ First → w.place.table ≡ Second
+      → NewestOfAll f g k s (Ok (cond (ltb (number_at f g v.place) (number_at f g w.place)) (Some w) (Some v)))
   newer_at v w a b sa sb = go (ltb m n) refl
     where
       m : ℕ
@@ -218,7 +198,7 @@ module _ (f g : List ℕ) (k : List ℕ) (s : ℕ) where
           let j = number_at_told f g x y w.place b.lands.reads.inside in
           together (some (entry_at f g v.place)) (some (entry_at f g w.place)) (a.rule x y).0 (b.rule x y).0 ∙ rw (i, j)
 
-      go : (t : Bool) → ltb m n ≡ t → NewestOfAll f g k s (cond t (newer.At w) (newer.At v))
+      go : (t : Bool) → ltb m n ≡ t → NewestOfAll f g k s (Ok (cond t (Some w) (Some v)))
       go true e = record {
         over = record { rule = λ x y. (rw e at (both x y), (b.rule x y).1); lands = b.lands };
         first = λ x y. before_second f _ w.place.table sb (λ d i z. let h = (known k s (held f) (some (entry_at f g v.place)) (a.rule x y).0).2 d i (fits_true k s d z) in
@@ -229,32 +209,19 @@ module _ (f g : List ℕ) (k : List ℕ) (s : ℕ) where
         first = λ x y. rw sa (all_nil _);
       }
 
-  newer_over : {r : Newest} (a b : Newest) → NewestOver (held f) f g k s a → NewestOver (held g) f g k s b → OnSide First a → OnSide Second b → r ≡ newer_of (number_at f g) a b → NewestOfAll f g k s r
-  newer_over a b x y p q e = rw e (go a b x y p q)
-    where
-      go : (a b : Newest) → NewestOver (held f) f g k s a → NewestOver (held g) f g k s b → OnSide First a → OnSide Second b → NewestOfAll f g k s (newer_of (number_at f g) a b)
-      go newer.Damaged b x y p q = record { over = record { rule = λ u v. absurd (x.rule u v); lands = x.lands }; first = λ u v. tt }
-      go newer.Nothing newer.Damaged x y p q = record { over = record { rule = λ u v. absurd (y.rule u v); lands = y.lands }; first = λ u v. tt }
-      go newer.Nothing newer.Nothing x y p q = record { over = record { rule = λ u v. together none none (x.rule u v) (y.rule u v); lands = tt }; first = λ u v. tt }
-      go newer.Nothing (newer.At w) x y p q = record {
-        over = record { rule = λ u v. (together none (some (entry_at f g w.place)) (x.rule u v) (y.rule u v).0, (y.rule u v).1); lands = y.lands };
-        first = λ u v. before_second f _ w.place.table q (λ d i z. absurd (known k s (held f) none (x.rule u v) d i (fits_true k s d z)));
-      }
-      go (newer.At w) newer.Damaged x y p q = record { over = record { rule = λ u v. absurd (y.rule u v); lands = y.lands }; first = λ u v. tt }
-      go (newer.At w) newer.Nothing x y p q = record {
-        over = record { rule = λ u v. (together (some (entry_at f g w.place)) none (x.rule u v).0 (y.rule u v), (x.rule u v).1); lands = x.lands };
-        first = λ u v. rw p (all_nil _);
-      }
-      go (newer.At v) (newer.At w) x y p q = newer_at v w x y p q
+  newer_over : (a b : Option Version) → NewestOver (held f) f g k s (Ok a) → NewestOver (held g) f g k s (Ok b) → OnSide First a → OnSide Second b
+      → NewestOfAll f g k s (Ok (newer_of (number_at f g) a b))
+  newer_over None None x y p q = record { over = record { rule = λ u v. together none none (x.rule u v) (y.rule u v); lands = tt }; first = λ u v. tt }
+  newer_over None (Some w) x y p q = record {
+    over = record { rule = λ u v. (together none (some (entry_at f g w.place)) (x.rule u v) (y.rule u v).0, (y.rule u v).1); lands = y.lands };
+    first = λ u v. before_second f _ w.place.table q (λ d i z. absurd (known k s (held f) none (x.rule u v) d i (fits_true k s d z)));
+  }
+  newer_over (Some w) None x y p q = record {
+    over = record { rule = λ u v. (together (some (entry_at f g w.place)) none (x.rule u v).0 (y.rule u v), (x.rule u v).1); lands = x.lands };
+    first = λ u v. rw p (all_nil _);
+  }
+  newer_over (Some v) (Some w) x y p q = newer_at v w x y p q
 
-  pub newest_both : {p q r : Newest} (a b : NewestAt) → TellsNewest f k s a → p ≡ version_in First a → TellsNewest g k s b → q ≡ version_in Second b
-      → r ≡ newer_of (number_at f g) p q → NewestOfAll f g k s r
-  newest_both {p} {q} a b x d y e h = newer_over p q (version_over First a x d) (version_over Second b y e) (on_side First a d) (on_side Second b e) h
-
--- the newer by cases
-module _ (number : Place → ℕ) (x y : Version) {m n : ℕ} (em : m ≡ number x.place) (en : n ≡ number y.place) where
-  pub newer_second : m < n → newer.At y ≡ newer_of number (newer.At x) (newer.At y)
-  newer_second h = rw (← em, ← en, lt-ltb m n h)
-
-  pub newer_first : n ≤ m → newer.At x ≡ newer_of number (newer.At x) (newer.At y)
-  newer_first h = rw (← em, ← en, le-ltb m n h)
+  pub newest_both : {p q r : Option Version} (a b : Option Newest) → TellsNewest f k s (Ok a) → p ≡ option_map (version_in First) a → TellsNewest g k s (Ok b)
+      → q ≡ option_map (version_in Second) b → r ≡ newer_of (number_at f g) p q → NewestOfAll f g k s (Ok r)
+  newest_both a b x d y e h = rw (h, d, e) (newer_over _ _ (version_over First a x) (version_over Second b y) (on_side First a) (on_side Second b))

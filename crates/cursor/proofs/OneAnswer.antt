@@ -5,6 +5,7 @@ use mathlib.Core.Path.{◌≡◌, refl, sym, ap, ◌∙◌}
 use mathlib.Core.Logic.{inl, inr}
 use mathlib.Core.List.{List, [], ◌∷◌}
 use lib.ListN.{get_or}
+use Rattle.std.specs.Prelude.{Option, Some, None, Result, Ok, Err}
 use Rattle.rule.specs.Lists.{Maybe, none, some}
 use Rattle.rule.specs.Entries.{Entry}
 use Rattle.rule.specs.Rows.{row}
@@ -13,25 +14,26 @@ use Rattle.rule.proofs.Rows.{true_fits}
 use Rattle.image.specs.Nodes.{entry_of}
 use Rattle.image.specs.Sound.{Sound}
 use Rattle.image.specs.Meaning.{IsNode}
-use Rattle.image.specs.Refusals.{Refusal, bad_image, bad_kind, bad_number, long_key, long_value, bad_height, no_room, duplicate, damaged, no_node, number_of, Answer, refused, given}
+use Rattle.image.specs.Refusals as is
+use Rattle.image.specs.Refusals.{bad_image, bad_kind, bad_number, long_key, long_value, bad_height, no_room, duplicate, damaged, no_node, number_of, Answer, refused, given}
+use Rattle.table.specs.Refusals.{refusal_is}
+use Rattle.table.specs.declared.refusals.Refusal.{Refusal}
+use Rattle.table.specs.declared.memtable_iter.Stays.{Stays}
 use Rattle.table.specs.declared.refusals.Refusal.TheVariants.{BadImage, BadKind, BadNumber, LongKey, LongValue, BadHeight, NoRoom, Duplicate, Damaged, NoNode}
 use Rattle.table.proofs.Laws.{node_held, node_single}
-use Rattle.table.proofs.OneAnswer.{refusal_from, refusal_back}
+use Rattle.table.proofs.OneAnswer.{answer_one}
 use Rattle.cursor.proofs.Merging.{known}
 use Rattle.cursor.specs.Places.{all_entries, place, entry_at, Gives}
 use Rattle.cursor.specs.Moves.{asked, key_given, start_key, MovedIs, moved_to, moved_as, LeadsTo, Moves, Decided}
-use Rattle.cursor.specs.Pairs.{PairSays, found, deleted, absent, PairLooked, pair_as, GetsPair}
+use Rattle.cursor.specs.Pairs.{PairSays, found, deleted, absent, PairLooked, pair_is, GetsPair}
 use Rattle.cursor.specs.Rows.{value_in, ShowsKey, ShowsValue, Refuses}
-use Rattle.cursor.specs.RowSpans.{PartIn, row_span_as, View, RowSpans}
+use Rattle.cursor.specs.RowSpans.{PartIn, part_is, View, RowSpans}
 use Rattle.cursor.specs.declared.row_views.RowSpan.{RowSpan}
-use Rattle.cursor.specs.declared.row_views.RowSpan.TheVariants as span
 use Rattle.cursor.specs.declared.places.Side.{Side}
 use Rattle.cursor.specs.declared.places.Side.TheVariants.{First, Second}
 use Rattle.cursor.specs.declared.places.Place.{Place}
 use Rattle.cursor.specs.declared.places.Cursor.{Cursor}
 use Rattle.cursor.specs.declared.places.Cursor.TheVariants.{On}
-use Rattle.cursor.specs.declared.db_iter.Moved.{Moved}
-use Rattle.cursor.specs.declared.db_iter.Moved.TheVariants.{To, Refused}
 use Rattle.cursor.specs.declared.merging_iter.PairLookup.{PairLookup}
 use Rattle.cursor.specs.declared.merging_iter.PairLookup.TheVariants as pair
 
@@ -61,31 +63,38 @@ module _ (f g : List ℕ) (x : Sound f) (y : Sound g) (s : ℕ) where
   leads_one none a b m n = m ∙ sym n
   leads_one (some k) a b (p, d, m) (q, e, n) = d ∙ ap (λ (o : Place). moved_to (On o)) (place_one k p q m n) ∙ sym e
 
--- from the answers of the definition back to those of the code, by the number of the refusal
-moved_from : ℕ → Cursor → Moved
-moved_from zero c = To c
-moved_from (suc n) c = Refused (get_or (BadImage ∷ BadKind ∷ BadNumber ∷ LongKey ∷ LongValue ∷ BadHeight ∷ NoRoom ∷ Duplicate ∷ Damaged ∷ NoNode ∷ []) n BadImage) c
+-- the refusals of the code in the order of their numbers
+abbrev by_number : List Refusal
+by_number = BadImage ∷ BadKind ∷ BadNumber ∷ LongKey ∷ LongValue ∷ BadHeight ∷ NoRoom ∷ Duplicate ∷ Damaged ∷ NoNode ∷ []
 
-moved_back : (r : Moved) → moved_from (moved_as r).refusal (moved_as r).cursor ≡ r
+-- from the answers of the definition back to those of the code, by the number of the refusal
+moved_from : ℕ → Cursor → Result Cursor (Stays Cursor)
+moved_from zero c = Ok c
+moved_from (suc n) c = Err (record { why = get_or by_number n BadImage; at = c })
+
+moved_back : (r : Result Cursor (Stays Cursor)) → moved_from (moved_as r).refusal (moved_as r).cursor ≡ r
 unfolding moved_from
-moved_back (To c) = refl
-moved_back (Refused BadImage c) = refl
-moved_back (Refused BadKind c) = refl
-moved_back (Refused BadNumber c) = refl
-moved_back (Refused LongKey c) = refl
-moved_back (Refused LongValue c) = refl
-moved_back (Refused BadHeight c) = refl
-moved_back (Refused NoRoom c) = refl
-moved_back (Refused Duplicate c) = refl
-moved_back (Refused Damaged c) = refl
-moved_back (Refused NoNode c) = refl
+moved_back (Ok c) = refl
+moved_back (Err r) = go r.why
+  where
+    go : (q : Refusal) → moved_from (number_of (refusal_is q)) r.at ≡ Err (record { why = q; at = r.at })
+    go BadImage = refl
+    go BadKind = refl
+    go BadNumber = refl
+    go LongKey = refl
+    go LongValue = refl
+    go BadHeight = refl
+    go NoRoom = refl
+    go Duplicate = refl
+    go Damaged = refl
+    go NoNode = refl
 
 -- the paper's number and cursor fix the answer
-pub moved_one : (r q : Moved) → moved_as r ≡ moved_as q → r ≡ q
+pub moved_one : (r q : Result Cursor (Stays Cursor)) → moved_as r ≡ moved_as q → r ≡ q
 moved_one r q e = sym (moved_back r) ∙ ap (λ (a : MovedIs). moved_from a.refusal a.cursor) e ∙ moved_back q
 
 -- two answers that a move's promise allows are one: on any bytes where the arguments are refused, and where both tables are sound
-pub move_one : (v : Move) (f g : List ℕ) (s : ℕ) (c : Cursor) → Decided v f g s c → (r q : Moved) → Moves v f g s c r → Moves v f g s c q → r ≡ q
+pub move_one : (v : Move) (f g : List ℕ) (s : ℕ) (c : Cursor) → Decided v f g s c → (r q : Result Cursor (Stays Cursor)) → Moves v f g s c r → Moves v f g s c q → r ≡ q
 move_one v f g s c (inl (o, e)) r q a b = moved_one r q (a.refused o e ∙ sym (b.refused o e))
 move_one v f g s c (inr (x, y)) r q a b = moved_one r q (go (asked f g s c (key_given v)) refl)
   where
@@ -94,7 +103,7 @@ move_one v f g s c (inr (x, y)) r q a b = moved_one r q (go (asked f g s c (key_
     go (refused o) e = a.refused o e ∙ sym (b.refused o e)
 
 -- every refusal has a number
-pub no_refusal : (q : Refusal) → 0 ≡ number_of q → ⊥
+pub no_refusal : (q : is.Refusal) → 0 ≡ number_of q → ⊥
 no_refusal bad_image e = omega arith
 no_refusal bad_kind e = omega arith
 no_refusal bad_number e = omega arith
@@ -118,19 +127,14 @@ said_from (found p) looks = pair.Found p looks
 said_from deleted looks = pair.Deleted looks
 said_from absent looks = pair.Absent looks
 
-pair_from : Answer PairLooked → PairLookup
-pair_from (given a) = said_from a.says a.looks
-pair_from (refused r) = pair.Refused (refusal_from r)
-
-pub pair_one : (f g k : List ℕ) (s : ℕ) (r q : PairLookup) → GetsPair f g k s r → GetsPair f g k s q → r ≡ q
-unfolding said_from pair_from
-pair_one f g k s r q a b = sym (back r) ∙ ap pair_from (a.exact ∙ sym b.exact) ∙ back q
+pub pair_one : (f g k : List ℕ) (s : ℕ) (r q : Result PairLookup Refusal) → GetsPair f g k s r → GetsPair f g k s q → r ≡ q
+unfolding said_from
+pair_one f g k s r q a b = answer_one pair_is (λ (a : PairLooked). said_from a.says a.looks) back r q (a.exact ∙ sym b.exact)
   where
-    back : (r : PairLookup) → pair_from (pair_as r) ≡ r
+    back : (r : PairLookup) → said_from (pair_is r).says (pair_is r).looks ≡ r
     back (pair.Found p looks) = refl
     back (pair.Deleted looks) = refl
     back (pair.Absent looks) = refl
-    back (pair.Refused q) = ap {B = PairLookup} pair.Refused (refusal_back q)
 
 pub key_one : (f g : List ℕ) (c : Cursor) (v w : List ℕ) → ShowsKey f g c v → ShowsKey f g c w → v ≡ w
 key_one f g c v w a b = a.exact ∙ sym b.exact
@@ -143,16 +147,14 @@ refusal_one f g c m n a b = a.exact ∙ sym b.exact
 
 -- ---- where the views stand: `row_key_span`, `row_value_span`
 
-span_from : Answer (Maybe PartIn) → RowSpan
-span_from (given none) = span.Nowhere
-span_from (given (some p)) = span.In p.side p.span.at p.span.len
-span_from (refused r) = span.Refused (refusal_from r)
+span_from : Maybe PartIn → Option RowSpan
+span_from none = None
+span_from (some p) = Some (record { table = p.side; span = record { at = p.span.at; len = p.span.len } })
 
-pub span_one : (view : View) (f g : List ℕ) (c : Cursor) (r q : RowSpan) → RowSpans view f g c r → RowSpans view f g c q → r ≡ q
+pub span_one : (view : View) (f g : List ℕ) (c : Cursor) (r q : Result (Option RowSpan) Refusal) → RowSpans view f g c r → RowSpans view f g c q → r ≡ q
 unfolding span_from
-span_one view f g c r q a b = sym (back r) ∙ ap span_from (a.exact ∙ sym b.exact) ∙ back q
+span_one view f g c r q a b = answer_one part_is span_from back r q (a.exact ∙ sym b.exact)
   where
-    back : (r : RowSpan) → span_from (row_span_as r) ≡ r
-    back span.Nowhere = refl
-    back (span.In side o n) = refl
-    back (span.Refused q) = ap {B = RowSpan} span.Refused (refusal_back q)
+    back : (r : Option RowSpan) → span_from (part_is r) ≡ r
+    back None = refl
+    back (Some s) = refl

@@ -7,7 +7,9 @@ use mathlib.Core.List.{List}
 use mathlib.Core.Bool.{Bool, true, false, not}
 use lib.ListN.{length}
 use lib.Dec.{leb}
-use Rattle.rule.specs.Lists.{cond, both}
+use borrow.Author.Tests.{not-true, not-false}
+use Rattle.std.specs.Prelude.{Result, Ok, Err}
+use Rattle.rule.specs.Lists.{cond}
 use Rattle.image.specs.Limits.{max_key, max_number, max_nodes, levels}
 use Rattle.image.specs.Nodes.{count}
 use Rattle.image.specs.Sound.{Sound, header_holds}
@@ -20,34 +22,15 @@ use Rattle.image.proofs.Refusals.{refused_given, demand_given, reading_given}
 use Rattle.image.proofs.Search.{searched_looks}
 use Rattle.image.proofs.Sound.{header_complete}
 use Rattle.image.proofs.Lookup.{get_tells}
-use Rattle.table.specs.Memtable.{lookup_as, Gets}
+use Rattle.table.specs.Memtable.{lookup_is, Gets}
 use Rattle.table.specs.declared.refusals.Refusal.{Refusal}
 use Rattle.table.specs.declared.refusals.Refusal.TheVariants as refusal
 use Rattle.table.specs.declared.memtable.Lookup.{Lookup as LookupHere}
 use Rattle.table.specs.declared.memtable.Lookup.TheVariants as lookup
 use Rattle.table.proofs.Laws.{get_looks}
-use Rattle.cursor.proofs.Headers.{headers_hold, headers_refused}
-use Rattle.cursor.specs.Places.{place}
-use Rattle.cursor.specs.Pairs.{PairLooked, pair_as, says_in, told_by, is_said, answers_of, looks_taken, FewLooks, first_or_second, get_pair, TellsPair, most_looks, SearchLooks, PairLooks, GetsPair}
-use Rattle.cursor.specs.declared.places.Side.{Side}
+use Rattle.cursor.specs.Pairs.{PairLooked, pair_is, pair_as, says_in, told_of, told_by, is_said, looks_taken, FewLooks, first_or_second, get_pair, TellsPair, most_looks, SearchLooks, PairLooks, GetsPair}
 use Rattle.cursor.specs.declared.places.Side.TheVariants.{First, Second}
 use Rattle.cursor.specs.declared.merging_iter.PairLookup.{PairLookup}
-use Rattle.cursor.specs.declared.merging_iter.PairLookup.TheVariants as pair
-
--- ---- one table's answer
-
-module _ (side : Side) (n : ℕ) {a : LookupHere} {m : ℕ} (e : m ≡ looks_taken (lookup_as a)) where
-  pub told_found : {i l : ℕ} → a ≡ lookup.Found i l → pair_as (pair.Found (place side i) (n + m)) ≡ told_by side n (lookup_as a)
-  told_found h = rw (e, h)
-
-  pub told_deleted : {l : ℕ} → a ≡ lookup.Deleted l → pair_as (pair.Deleted (n + m)) ≡ told_by side n (lookup_as a)
-  told_deleted h = rw (e, h)
-
-  pub told_absent : {l : ℕ} → a ≡ lookup.Absent l → pair_as (pair.Absent (n + m)) ≡ told_by side n (lookup_as a)
-  told_absent h = rw (e, h)
-
-pub told_refused : (side : Side) (n : ℕ) {a : LookupHere} {q : Refusal} → a ≡ lookup.Refused q → pair_as (pair.Refused q) ≡ told_by side n (lookup_as a)
-told_refused side n h = rw h
 
 -- ---- how many looks
 
@@ -97,12 +80,12 @@ few_of : (xs k : List ℕ) (s : ℕ) (a : Answer Lookup) → a ≡ get xs k s �
 few_of xs k s (refused q) e = omega arith
 few_of xs k s (given a) e = get_looks xs k s a (sym e)
 
-module _ (f k : List ℕ) (s : ℕ) {a : LookupHere} (ga : Gets f k s a) where
-  pub few_first : FewLooks 0 (lookup_as a)
-  few_first = record { few = omega (arith, few_of f k s (lookup_as a) ga.exact) }
+-- of the tables that a lookup in a pair asks they are few
+pub few_first : (f k : List ℕ) (s : ℕ) (a : LookupHere) → Gets f k s (Ok a) → FewLooks 0 (lookup_is a)
+few_first f k s a ga = record { few = omega (arith, few_of f k s (given (lookup_is a)) ga.exact) }
 
-  pub few_both : (g : List ℕ) {b : LookupHere} {m : ℕ} → Gets g k s b → m ≡ looks_taken (lookup_as a) → FewLooks m (lookup_as b)
-  few_both g {b} gb e = record { few = omega (arith, e, few_of f k s (lookup_as a) ga.exact, few_of g k s (lookup_as b) gb.exact) }
+pub few_both : (f g k : List ℕ) (s n : ℕ) (b : LookupHere) → Gets f k s (Ok (lookup.Absent n)) → Gets g k s (Ok b) → FewLooks n (lookup_is b)
+few_both f g k s n b ga gb = record { few = omega (arith, few_of f k s (given (lookup_is (lookup.Absent n))) ga.exact, few_of g k s (given (lookup_is b)) gb.exact) }
 
 -- ---- what it tells
 
@@ -126,28 +109,45 @@ module _ (f g k : List ℕ) (s : ℕ) where
       go one.absent one.deleted m n t w = (_, refl, inr (t, w))
       go one.absent one.absent m n t w = (_, refl, (t, w))
 
-  gets_pair : (r : PairLookup) → pair_as r ≡ get_pair f g k s → GetsPair f g k s r
+  gets_pair : (r : Result PairLookup Refusal) → pair_as r ≡ get_pair f g k s → GetsPair f g k s r
   gets_pair r e = record {
     exact = e;
     rule = λ x y low short. let (c, d, t) = pair_tells x y low short in (c, e ∙ d, t);
     looks = λ a d. pair_few f g k s a.looks (pair_searched f g k s a (sym e ∙ d));
   }
 
-  module _ {a : Bool} (ea : a ≡ both (header_holds f) (header_holds g)) where
-    pub pair_bad : not a ≡ true → GetsPair f g k s (pair.Refused refusal.BadImage)
+  module _ {h : Bool} (eh : h ≡ header_holds f) where
+    pub pair_first_bad : not h ≡ true → GetsPair f g k s (Err refusal.BadImage)
     unfolding get_pair
-    pair_bad h = gets_pair (pair.Refused refusal.BadImage) (headers_refused f g ea h _)
+    pair_first_bad z = gets_pair (Err refusal.BadImage) (rw (← eh, not-true h z))
 
-    module _ (ha : not a ≡ false) {u : LookupHere} (gu : Gets f k s u) {t : Bool} (et : t ≡ answers_of (lookup_as u)) where
-      decided : get_pair f g k s ≡ cond t (told_by First 0 (lookup_as u)) (told_by Second (looks_taken (lookup_as u)) (get g k s))
+    module _ (hz : not h ≡ false) {i : Bool} (ei : i ≡ header_holds g) where
+      pub pair_second_bad : not i ≡ true → GetsPair f g k s (Err refusal.BadImage)
       unfolding get_pair
-      decided = let h = headers_hold f g ea ha in rw (h.first, h.second, ← gu.exact, et)
+      pair_second_bad z = gets_pair (Err refusal.BadImage) (rw (← eh, not-false h hz, ← ei, not-true i z))
 
-      pub pair_first : t ≡ true → (r : PairLookup) → pair_as r ≡ told_by First 0 (lookup_as u) → GetsPair f g k s r
-      pair_first h r e = gets_pair r (e ∙ sym (rw h at decided))
+      module _ (iz : not i ≡ false) where
+        both_asked : get_pair f g k s ≡ first_or_second (get f k s) (get g k s)
+        unfolding get_pair
+        both_asked = rw (← eh, not-false h hz, ← ei, not-false i iz)
 
-      pub pair_second : t ≡ false → {m : ℕ} → m ≡ looks_taken (lookup_as u) → {v : LookupHere} → Gets g k s v → (r : PairLookup) → pair_as r ≡ told_by Second m (lookup_as v) → GetsPair f g k s r
-      pair_second h {m} d {v} gv r e = gets_pair r (e ∙ same ∙ sym (rw h at decided))
-        where
-          same : told_by Second m (lookup_as v) ≡ told_by Second (looks_taken (lookup_as u)) (get g k s)
-          same = rw (d, gv.exact)
+        -- the first table is refused, or says more than absent
+        pub first_refused : (q : Refusal) → Gets f k s (Err q) → GetsPair f g k s (Err q)
+        first_refused q ga = gets_pair (Err q) (rw (both_asked, ← ga.exact))
+
+        pub first_said : (a : LookupHere) → Gets f k s (Ok a) → ((looks : ℕ) → a ≡ lookup.Absent looks → ⊥)
+            → (r : PairLookup) → pair_is r ≡ told_of First 0 (lookup_is a) → GetsPair f g k s (Ok r)
+        first_said a ga n r e = gets_pair (Ok r) (rw e (go a ga n))
+          where
+            go : (a : LookupHere) → Gets f k s (Ok a) → ((looks : ℕ) → a ≡ lookup.Absent looks → ⊥) → given (told_of First 0 (lookup_is a)) ≡ get_pair f g k s
+            go (lookup.Found i looks) ga n = rw (both_asked, ← ga.exact)
+            go (lookup.Deleted looks) ga n = rw (both_asked, ← ga.exact)
+            go (lookup.Absent looks) ga n = absurd (n looks refl)
+
+        -- or absent
+        module _ (n : ℕ) (ga : Gets f k s (Ok (lookup.Absent n))) where
+          pub second_refused : (q : Refusal) → Gets g k s (Err q) → GetsPair f g k s (Err q)
+          second_refused q gb = gets_pair (Err q) (rw (both_asked, ← ga.exact, ← gb.exact))
+
+          pub second_said : (b : LookupHere) → Gets g k s (Ok b) → (r : PairLookup) → pair_is r ≡ told_of Second n (lookup_is b) → GetsPair f g k s (Ok r)
+          second_said b gb r e = gets_pair (Ok r) (rw (e, both_asked, ← ga.exact, ← gb.exact))

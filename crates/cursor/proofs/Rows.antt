@@ -50,11 +50,8 @@ module _ (f g : List ℕ) (c : Cursor) where
   refuses n e = record { exact = e; rule = λ x y i. e ∙ refusal_rule f g x y c i }
 
   module _ {b : Bool} (eb : b ≡ both (header_holds f) (header_holds g)) where
-    pub refuses_headers : not b ≡ true → (n : ℕ) → n ≡ number_of bad_image → Refuses f g c n
-    refuses_headers h n e = refuses n (rw (← eb, not-true b h) e)
-
-    pub refuses_nowhere : not b ≡ false → c ≡ Nowhere → Refuses f g c 0
-    refuses_nowhere h e = refuses 0 (rw (e, ← eb, not-false b h))
+    pub refuses_headers : not b ≡ true → Refuses f g c (number_of bad_image)
+    refuses_headers h = refuses (number_of bad_image) (rw (← eb, not-true b h))
 
     pub refuses_on : not b ≡ false → {p : Place} → c ≡ On p → {n : ℕ} → n ≡ refusal_at f g p → Refuses f g c n
     refuses_on h e {n} d = refuses n (rw (e, ← eb, not-false b h) d)

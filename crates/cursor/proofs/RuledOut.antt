@@ -6,6 +6,7 @@ use mathlib.Core.List.{List, [], ◌∷◌}
 use mathlib.Core.Bool.{Bool, false, true≢false}
 use lib.ListN.{length, length-append}
 use lib.Dec.{leb}
+use Rattle.std.specs.Prelude.{Result, Ok, Err}
 use Rattle.rule.specs.Lists.{none, is_some}
 use Rattle.rule.specs.Order.{compare_keys}
 use Rattle.rule.specs.Entries.{Entry}
@@ -22,7 +23,6 @@ use Rattle.table.specs.Memtable.{Adds, lookup_as, Gets}
 use Rattle.table.specs.Presence.{presence_as, Contains}
 use Rattle.table.specs.Growth as growth
 use Rattle.table.specs.declared.refusals.Refusal.{Refusal}
-use Rattle.table.specs.declared.memtable.Added.TheVariants as added
 use Rattle.table.specs.declared.memtable.Lookup.{Lookup}
 use Rattle.table.specs.declared.presence.Presence.{Presence}
 use Rattle.cursor.specs.Places.{place}
@@ -34,7 +34,6 @@ use Rattle.cursor.specs.Runs.{Tables, Seen, Run, InLimits}
 use Rattle.cursor.specs.declared.merging_iter.PairLookup.{PairLookup}
 use Rattle.cursor.specs.declared.places.Cursor.{Cursor}
 use Rattle.cursor.specs.declared.places.Cursor.TheVariants.{Nowhere, On}
-use Rattle.cursor.specs.declared.db_iter.Moved.TheVariants.{To}
 use Rattle.cursor.proofs.Lockstep.{asked_whole}
 use Rattle.cursor.proofs.Pairs.{get_searched, pair_searched}
 use Rattle.cursor.proofs.RowsSeen.{run_rows}
@@ -45,15 +44,15 @@ nowhere_else : {p : Place} → moved_to Nowhere ≡ moved_to (On p) → ⊥
 nowhere_else {p} e = let d : Nowhere ≡ On p = ap (λ (a : MovedIs). a.cursor) e in let z : ◌≡◌ {A = ℕ} 0 1 = cc in omega arith
 
 -- a table that refuses everything: a=x goes into the fresh table f0
-pub refuses_all : (q : Refusal) (ys : List ℕ) → Adds f0 (put a 1 x) 1 (added.Refused q) ys → ⊥
+pub refuses_all : (q : Refusal) (ys : List ℕ) → Adds f0 (put a 1 x) 1 (Err q) ys → ⊥
 refuses_all q ys r = refused_given (r.exact ∙ sym adding_a.exact)
 
 -- an addition that does nothing, of any entry at any height to any sound table
-pub adds_nothing : (xs : List ℕ) → Sound xs → (e : Entry) (h i : ℕ) → Adds xs e h (added.Node i) xs → ⊥
+pub adds_nothing : (xs : List ℕ) → Sound xs → (e : Entry) (h i : ℕ) → Adds xs e h (Ok i) xs → ⊥
 adds_nothing xs s e h i r = let n = ap length (r.rule s).0.held_more ∙ length-append (held xs) (e ∷ []) in omega (arith, n)
 
 -- a cursor that always says 'no row': over a=x and b=y there is a first
-pub always_none : Moves first f1 g1 2 Nowhere (To Nowhere) → ⊥
+pub always_none : Moves first f1 g1 2 Nowhere (Ok Nowhere) → ⊥
 unfolding compare_keys
 always_none r = let (p, e, _) = rw held_left at (r.rule (asked_whole left Nowhere whole_begun 2 []) whole_begun.first whole_begun.second) in nowhere_else e
 
@@ -86,11 +85,11 @@ replays r = true≢false (sym (ap last_shows (rw (held_left, held_early) at (run
 
 -- a made-up look count: on any bytes, whether it finds, deletes or says absent, the looks are the search's own, link by link
 
-pub looks_one : (xs k : List ℕ) (s : ℕ) (r : Lookup) → Gets xs k s r → (a : LookupIs) → lookup_as r ≡ given a → SearchLooks xs k s a.looks
+pub looks_one : (xs k : List ℕ) (s : ℕ) (r : Result Lookup Refusal) → Gets xs k s r → (a : LookupIs) → lookup_as r ≡ given a → SearchLooks xs k s a.looks
 looks_one xs k s r g a e = get_searched xs k s a (sym g.exact ∙ e)
 
 -- of presence
-pub presence_looks : (xs k : List ℕ) (n kind : ℕ) (r : Presence) → Contains xs k n kind r → (a : PresenceIs) → presence_as r ≡ given a → SearchLooks xs k n a.looks
+pub presence_looks : (xs k : List ℕ) (n kind : ℕ) (r : Result Presence Refusal) → Contains xs k n kind r → (a : PresenceIs) → presence_as r ≡ given a → SearchLooks xs k n a.looks
 unfolding presence
 presence_looks xs k n kind r c a e =
     let (_, p) = demand_given (header_holds xs) bad_image _ a (sym c.exact ∙ e) in
@@ -105,5 +104,5 @@ presence_looks xs k n kind r c a e =
     same e = let z : _ ≡ _ = e in cc
 
 -- of a pair: the sum over the tables asked
-pub pair_looks : (f g k : List ℕ) (s : ℕ) (r : PairLookup) → GetsPair f g k s r → (a : PairLooked) → pair_as r ≡ given a → PairLooks f g k s a.looks
+pub pair_looks : (f g k : List ℕ) (s : ℕ) (r : Result PairLookup Refusal) → GetsPair f g k s r → (a : PairLooked) → pair_as r ≡ given a → PairLooks f g k s a.looks
 pair_looks f g k s r p a e = pair_searched f g k s a (sym p.exact ∙ e)

@@ -7,6 +7,7 @@ use mathlib.Core.List.Memᴰ
 use mathlib.Core.List.{List, Memᴰ}
 use mathlib.Core.Bool.{Bool, true, false}
 use lib.ListN.{length, length-append}
+use Rattle.std.specs.Prelude.{Ok}
 use Rattle.rule.specs.Order.{compare_keys, is_less}
 use Rattle.rule.specs.Entries.{Entry}
 use Rattle.rule.specs.Moves.{Move, first, seek, next, previous}
@@ -25,7 +26,6 @@ use Rattle.cursor.specs.declared.places.Side.TheVariants.{First, Second}
 use Rattle.cursor.specs.declared.places.Place.{Place}
 use Rattle.cursor.specs.declared.places.Cursor.{Cursor}
 use Rattle.cursor.specs.declared.places.Cursor.TheVariants.{Nowhere, On}
-use Rattle.cursor.specs.declared.db_iter.Moved.TheVariants.{To}
 
 -- the order of keys, and its opposite
 abbrev above : Entry → Entry → Bool
@@ -49,7 +49,7 @@ place_held f g p n = go p.table p.node n
     go Second i n = Memᴰ.append_right (held f) (node_held g i n)
 
 -- a move that ends on a place was not refused, so it lands
-landed : (v : Move) (f g : List ℕ) (s : ℕ) (c : Cursor) (p : Place) → Moves v f g s c (To (On p)) → Lands v f g s c p
+landed : (v : Move) (f g : List ℕ) (s : ℕ) (c : Cursor) (p : Place) → Moves v f g s c (Ok (On p)) → Lands v f g s c p
 landed v f g s c p m = go (asked f g s c (key_given v)) refl
   where
     go : (a : Answer {0} Unit) → asked f g s c (key_given v) ≡ a → Lands v f g s c p
@@ -59,7 +59,7 @@ landed v f g s c p m = go (asked f g s c (key_given v)) refl
 -- one argument for both ways: a move from a place ends ahead of it
 module _ (v : Move) (f g : List ℕ) (s : ℕ) (ahead : Entry → Entry → Bool) (never : (e : Entry) → ahead e e ≡ false) (trans : (e f g : Entry) → ahead e f ≡ true → ahead f g ≡ true → ahead e g ≡ true)
     (goes : (q p : Place) → Lands v f g s (On q) p → ahead (entry_at f g q) (entry_at f g p) ≡ true) where
-  member : (c : Cursor) (p : Place) → Moves v f g s c (To (On p)) → Memᴰ (entry_at f g p) (all_entries f g)
+  member : (c : Cursor) (p : Place) → Moves v f g s c (Ok (On p)) → Memᴰ (entry_at f g p) (all_entries f g)
   member c p m = place_held f g p (landed v f g s c p m).inside
 
   from_place : (q : Place) (k : ℕ) → Scan v f g s (On q) k → k ≤ left ahead never trans (entry_at f g q) (all_entries f g)

@@ -1,7 +1,7 @@
 -- What the moves of the visible cursor promise: `refused`, the refusal of the arguments, `rule`, where they lead on sound tables,
 -- and `lands`, where they end on any bytes: on a place that can be read whole, with a value up to the snapshot, onward of where the move
 -- started; or nowhere; or damage, which the move met, with the cursor as it was handed. So no scan goes round.
-use Rattle.std.specs.Prelude.{ℕ, ◌≤◌, ◌≡◌, ◌⊎◌, List, [], false, length, leb}
+use Rattle.std.specs.Prelude.{ℕ, ◌≤◌, ◌≡◌, ◌⊎◌, List, [], false, length, leb, Result, Ok, Err}
 use Rattle.rule.specs.Lists.{Maybe, none, some}
 use Rattle.rule.specs.Order.{less, compare_keys, is_less}
 use Rattle.rule.specs.Entries.{value_kind}
@@ -18,8 +18,8 @@ use Rattle.cursor.specs.Walks.{WalkDamaged}
 use Rattle.cursor.specs.declared.places.Place.{Place}
 use Rattle.cursor.specs.declared.places.Cursor.{Cursor}
 use Rattle.cursor.specs.declared.places.Cursor.TheVariants.{Nowhere, On}
-use Rattle.cursor.specs.declared.db_iter.Moved.{Moved}
-use Rattle.cursor.specs.declared.db_iter.Moved.TheVariants.{To, Refused}
+use Rattle.table.specs.declared.refusals.Refusal.{Refusal}
+use Rattle.table.specs.declared.memtable_iter.Stays.{Stays}
 
 -- ---- the arguments
 
@@ -57,9 +57,14 @@ abbrev pub moved_to : Cursor → MovedIs
 moved_to c = record { refusal = 0; cursor = c }
 
 -- the answer of a move
-abbrev pub moved_as : Moved → MovedIs
-moved_as (To c) = moved_to c
-moved_as (Refused q c) = record { refusal = number_of (refusal_is q); cursor = c }
+abbrev pub moved_as : Result Cursor (Stays Cursor) → MovedIs
+moved_as (Ok c) = moved_to c
+moved_as (Err r) = record { refusal = number_of (refusal_is r.why); cursor = r.at }
+
+-- the same of a move from this cursor, before that is handed back
+abbrev pub went_as : Cursor → Result Cursor Refusal → MovedIs
+went_as at (Ok c) = moved_to c
+went_as at (Err q) = record { refusal = number_of (refusal_is q); cursor = at }
 
 -- it leads to the place of the entry that gives the row of the key, or nowhere if there is no key
 abbrev pub LeadsTo : List ℕ → List ℕ → ℕ → Maybe (List ℕ) → MovedIs → Type 0
@@ -117,11 +122,15 @@ LandsIn v f g s c = EndsOn (Lands v f g s c) (MeetsDamage v f g s c) c
 
 -- ---- the promises
 
+-- what is promised of the answer of a move
+pub record MovesAs (v : Move) (f g : List ℕ) (s : ℕ) (c : Cursor) (a : MovedIs) : Type 0 where
+  pub refused : (q : is.Refusal) → asked f g s c (key_given v) ≡ is.refused q → RefusedWith q c a
+  pub rule : asked f g s c (key_given v) ≡ given tt → Sound f → Sound g → LeadsTo f g s (target v s (start_key f g c) (all_entries f g)) a
+  pub lands : asked f g s c (key_given v) ≡ given tt → LandsIn v f g s c a
+
 -- what a move promises
-pub record Moves (v : Move) (f g : List ℕ) (s : ℕ) (c : Cursor) (r : Moved) : Type 0 where
-  pub refused : (q : is.Refusal) → asked f g s c (key_given v) ≡ is.refused q → RefusedWith q c (moved_as r)
-  pub rule : asked f g s c (key_given v) ≡ given tt → Sound f → Sound g → LeadsTo f g s (target v s (start_key f g c) (all_entries f g)) (moved_as r)
-  pub lands : asked f g s c (key_given v) ≡ given tt → LandsIn v f g s c (moved_as r)
+abbrev pub Moves : Move → List ℕ → List ℕ → ℕ → Cursor → Result Cursor (Stays Cursor) → Type 0
+Moves v f g s c r = MovesAs v f g s c (moved_as r)
 
 -- where the promise leaves one answer: the arguments are refused, on any bytes, or both tables are sound
 abbrev pub Decided : Move → List ℕ → List ℕ → ℕ → Cursor → Type 0

@@ -1,5 +1,5 @@
 -- Lookup in a pair of tables: document 01, 'Looking, moving, showing'.
-use Rattle.std.specs.Prelude.{ℕ, ◌+◌, ◌≤◌, ◌<◌, ◌≡◌, ◌⊎◌, List, Bool, true, false, length}
+use Rattle.std.specs.Prelude.{ℕ, ◌+◌, ◌≤◌, ◌<◌, ◌≡◌, ◌⊎◌, List, Bool, true, false, length, Result}
 use Rattle.rule.specs.Lists.{cond}
 use Rattle.image.specs.Limits.{max_key, max_number, levels}
 use Rattle.image.specs.Nodes.{count}
@@ -10,7 +10,8 @@ use Rattle.image.specs.Refusals.{Answer, refused, given, demand, bad_image}
 use Rattle.image.specs.Lookup.{Looked, Lookup, get}
 use Rattle.image.specs.Lookup as one
 use Rattle.image.specs.Meaning.{Tells}
-use Rattle.table.specs.Refusals.{refusal_is}
+use Rattle.table.specs.Refusals.{answer_as}
+use Rattle.table.specs.declared.refusals.Refusal.{Refusal}
 use Rattle.cursor.specs.Places.{place}
 use Rattle.cursor.specs.declared.places.Side.{Side}
 use Rattle.cursor.specs.declared.places.Side.TheVariants.{First, Second}
@@ -29,12 +30,15 @@ pub record PairLooked : Type 0 where
   pub says : PairSays
   pub looks : ℕ
 
+-- what it says, with the looks
+abbrev pub pair_is : PairLookup → PairLooked
+pair_is (pair.Found p looks) = record { says = found p; looks = looks }
+pair_is (pair.Deleted looks) = record { says = deleted; looks = looks }
+pair_is (pair.Absent looks) = record { says = absent; looks = looks }
+
 -- the answer
-abbrev pub pair_as : PairLookup → Answer PairLooked
-pair_as (pair.Found p looks) = given (record { says = found p; looks = looks })
-pair_as (pair.Deleted looks) = given (record { says = deleted; looks = looks })
-pair_as (pair.Absent looks) = given (record { says = absent; looks = looks })
-pair_as (pair.Refused q) = refused (refusal_is q)
+abbrev pub pair_as : Result PairLookup Refusal → Answer PairLooked
+pair_as r = answer_as pair_is r
 
 -- what one table says
 abbrev pub says_in : Side → Looked → PairSays
@@ -42,10 +46,14 @@ says_in side (one.found i) = found (place side i)
 says_in side one.deleted = deleted
 says_in side one.absent = absent
 
--- one table's answer, with the looks that were taken before it
+-- what one table says, with the looks that were taken before it
+abbrev pub told_of : Side → ℕ → Lookup → PairLooked
+told_of side n a = record { says = says_in side a.says; looks = n + a.looks }
+
+-- one table's answer
 abbrev pub told_by : Side → ℕ → Answer Lookup → Answer PairLooked
 told_by side n (refused q) = refused q
-told_by side n (given a) = given (record { says = says_in side a.says; looks = n + a.looks })
+told_by side n (given a) = given (told_of side n a)
 
 -- it says more than absent
 abbrev pub is_said : Looked → Bool
@@ -64,8 +72,8 @@ looks_taken (refused q) = 0
 looks_taken (given a) = a.looks
 
 -- their sum is a small number
-pub record FewLooks (before : ℕ) (a : Answer Lookup) : Type 0 where
-  pub few : before + looks_taken a < 4294967296
+pub record FewLooks (before : ℕ) (a : Lookup) : Type 0 where
+  pub few : before + a.looks < 4294967296
 
 -- the rule of the pair: the first table is asked, the second only if the first says absent
 abbrev pub first_or_second : Answer Lookup → Answer Lookup → Answer PairLooked
@@ -87,7 +95,7 @@ TellsPair f g k s deleted = Tells f k s one.deleted ⊎ (Tells f k s one.absent 
 TellsPair f g k s absent = Tells f k s one.absent × Tells g k s one.absent
 
 -- on sound tables, with a key and a snapshot within their limits: never refused
-abbrev pub PairRule : List ℕ → List ℕ → List ℕ → ℕ → PairLookup → Type 0
+abbrev pub PairRule : List ℕ → List ℕ → List ℕ → ℕ → Result PairLookup Refusal → Type 0
 PairRule f g k s r = (a : PairLooked) × (pair_as r ≡ given a) × TellsPair f g k s a.says
 
 -- n + 12 for each table asked
@@ -95,7 +103,7 @@ abbrev pub most_looks : List ℕ → List ℕ → List ℕ → ℕ → ℕ
 most_looks f g k s = cond (answers_of (get f k s)) (count f + levels) ((count f + levels) + (count g + levels))
 
 -- what the lookup in a pair promises; `looks` on any bytes
-pub record GetsPair (f g k : List ℕ) (s : ℕ) (r : PairLookup) : Type 0 where
+pub record GetsPair (f g k : List ℕ) (s : ℕ) (r : Result PairLookup Refusal) : Type 0 where
   pub exact : pair_as r ≡ get_pair f g k s
   pub rule : Sound f → Sound g → s ≤ max_number → length k ≤ max_key → PairRule f g k s r
   pub looks : (a : PairLooked) → pair_as r ≡ given a → a.looks ≤ most_looks f g k s

@@ -1,39 +1,36 @@
 -- Where the views at the visible cursor stand: which image, offset and length; a view is the part there.
-use Rattle.std.specs.Prelude.{ℕ, ◌+◌, ◌≤◌, ◌≡◌, List, [], length}
+use Rattle.std.specs.Prelude.{ℕ, ◌+◌, ◌≤◌, ◌≡◌, List, [], length, Option, Some, None, Result, IfOk, IfSome}
 use Rattle.rule.specs.Lists.{cond, both, Maybe, none, some}
 use Rattle.image.specs.Words.{part}
 use Rattle.image.specs.Sound.{header_holds}
 use Rattle.image.specs.Refusals.{Answer, refused, given, bad_image}
 use Rattle.image.specs.EntryMoves as one
 use Rattle.image.specs.EntryMoves.{Span, on}
-use Rattle.table.specs.Refusals.{refusal_is}
-use Rattle.table.specs.declared.entry_views.SpanOn.{SpanOn}
-use Rattle.table.specs.declared.entry_views.SpanOn.TheVariants.{At, Refused as RefusedOn}
+use Rattle.table.specs.Refusals.{answer_as}
+use Rattle.table.specs.EntryViews.{span_is}
+use Rattle.table.specs.declared.refusals.Refusal.{Refusal}
 use Rattle.cursor.specs.Places.{image_of}
 use Rattle.cursor.specs.declared.places.Side.{Side}
 use Rattle.cursor.specs.declared.places.Place.{Place}
 use Rattle.cursor.specs.declared.places.Cursor.{Cursor}
 use Rattle.cursor.specs.declared.places.Cursor.TheVariants as cursor
 use Rattle.cursor.specs.declared.row_views.RowSpan.{RowSpan}
-use Rattle.cursor.specs.declared.row_views.RowSpan.TheVariants.{Nowhere, In, Refused}
 
 -- a part of one of the two images
 pub record PartIn : Type 0 where
   pub side : Side
   pub span : Span
 
+-- a part of one of them, or none
+abbrev pub part_is : Option RowSpan → Maybe PartIn
+part_is None = none
+part_is (Some s) = some (record { side = s.table; span = span_is s.span })
+
 -- the answer
-abbrev pub row_span_as : RowSpan → Answer (Maybe PartIn)
-row_span_as Nowhere = given none
-row_span_as (In side o n) = given (some (record { side = side; span = record { at = o; len = n } }))
-row_span_as (Refused q) = refused (refusal_is q)
+abbrev pub row_span_as : Result (Option RowSpan) Refusal → Answer (Maybe PartIn)
+row_span_as r = answer_as part_is r
 
--- one table's answer, in the code
-abbrev pub span_in : Side → SpanOn → RowSpan
-span_in side (At o n) = In side o n
-span_in side (RefusedOn q) = Refused q
-
--- and in the definitions
+-- one table's answer
 abbrev pub part_in : Side → Answer Span → Answer (Maybe PartIn)
 part_in side (refused q) = refused q
 part_in side (given s) = given (some (record { side = side; span = s }))
@@ -62,17 +59,10 @@ part_bytes f g (given none) = []
 part_bytes f g (given (some p)) = part (image_of p.side f g) p.span.at p.span.len
 
 -- the part lies in its image
-abbrev pub RowSpanLies : List ℕ → List ℕ → RowSpan → Type 0
-RowSpanLies f g Nowhere = Unit
-RowSpanLies f g (In side o n) = o + n ≤ length (image_of side f g)
-RowSpanLies f g (Refused q) = Unit
-
--- where a view at a place stands, in its image
-pub record SpansAt (view : View) (f g : List ℕ) (p : Place) (r : RowSpan) : Type 0 where
-  pub exact : row_span_as r ≡ span_at view f g p
-  pub lies : RowSpanLies f g r
+abbrev pub RowSpanLies : List ℕ → List ℕ → Result (Option RowSpan) Refusal → Type 0
+RowSpanLies f g r = IfOk r (λ at. IfSome at (λ s. s.span.at + s.span.len ≤ length (image_of s.table f g)))
 
 -- where a view at a cursor stands, in its image
-pub record RowSpans (view : View) (f g : List ℕ) (c : Cursor) (r : RowSpan) : Type 0 where
+pub record RowSpans (view : View) (f g : List ℕ) (c : Cursor) (r : Result (Option RowSpan) Refusal) : Type 0 where
   pub exact : row_span_as r ≡ row_span view f g c
   pub lies : RowSpanLies f g r

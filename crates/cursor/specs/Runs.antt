@@ -1,5 +1,5 @@
 -- Runs of a host's moves over two tables that grow: what demand 3 speaks of.
-use Rattle.std.specs.Prelude.{ℕ, ◌<◌, ◌≤◌, ◌≡◌, ◌↔◌, length}
+use Rattle.std.specs.Prelude.{ℕ, ◌<◌, ◌≤◌, ◌≡◌, ◌↔◌, length, Result, Ok, Err}
 use mathlib.Core.List.{List, [], ◌∷◌, ◌++◌, Memᴰ}
 use Rattle.rule.specs.Lists.{Maybe, none, some, All}
 use Rattle.rule.specs.Entries.{Entry, Agree, Single}
@@ -16,7 +16,8 @@ use Rattle.cursor.specs.Moves.{key_given, moved_as, Moves}
 use Rattle.cursor.specs.Rows.{ShowsKey, ShowsValue}
 use Rattle.cursor.specs.declared.places.Cursor.{Cursor}
 use Rattle.cursor.specs.declared.places.Cursor.TheVariants.{Nowhere, On}
-use Rattle.cursor.specs.declared.db_iter.Moved.{Moved}
+use Rattle.table.specs.declared.refusals.Refusal.{Refusal}
+use Rattle.table.specs.declared.memtable_iter.Stays.{Stays}
 
 -- a pair of tables
 pub record Tables : Type 0 where
@@ -54,7 +55,7 @@ seen_in (m ∷ ms) = m.seen ∷ seen_in ms
 -- to either table, and of the move any answer that its promise allows
 pub data Run (s : ℕ) : Tables → Cursor → List Moment → Type 0 where
   begun : {t : Tables} → Begun t.first → Begun t.second → Run s t Nowhere []
-  moved : {t : Tables} {c : Cursor} {ms : List Moment} {es fs : List Entry} (u : Tables) (v : Move) (r : Moved) (w : Maybe Row)
+  moved : {t : Tables} {c : Cursor} {ms : List Moment} {es fs : List Entry} (u : Tables) (v : Move) (r : Result Cursor (Stays Cursor)) (w : Maybe Row)
       → Run s t c ms → Additions t.first es u.first → Additions t.second fs u.second
       → Moves v u.first u.second s c r → Shows u (moved_as r).cursor w
       → Run s u (moved_as r).cursor (record { tables = u; move = v; seen = record { refusal = (moved_as r).refusal; row = w } } ∷ ms)
@@ -126,8 +127,8 @@ pub data Learnt : Type 0 where
   absent : Learnt
 
 -- what it learns of an answer
-abbrev pub learnt : List ℕ → Lookup → Learnt
-learnt xs (lookup.Found i looks) = found (viewed xs (value_view xs (on i)))
-learnt xs (lookup.Deleted looks) = deleted
-learnt xs (lookup.Absent looks) = absent
-learnt xs (lookup.Refused q) = refused (number_of (refusal_is q))
+abbrev pub learnt : List ℕ → Result Lookup Refusal → Learnt
+learnt xs (Ok (lookup.Found i looks)) = found (viewed xs (value_view xs (on i)))
+learnt xs (Ok (lookup.Deleted looks)) = deleted
+learnt xs (Ok (lookup.Absent looks)) = absent
+learnt xs (Err q) = refused (number_of (refusal_is q))

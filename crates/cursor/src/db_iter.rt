@@ -3,158 +3,144 @@
 ghost use Rattle.std.specs.Prelude.{◌≡◌};
 ghost use Rattle.rule.specs.Moves as rule;
 ghost use Rattle.table.specs.Questions.{cut_of};
+ghost use Rattle.table.specs.Refusals.{answer_as};
 ghost use Rattle.cursor.specs.Places.{inside};
-ghost use Rattle.cursor.specs.Going.{HeadersHold};
-ghost use Rattle.cursor.specs.Moves.{asked, Moves};
-ghost use Rattle.cursor.specs.Going.{test_as, moved_of, Went, WentFrom};
+ghost use Rattle.cursor.specs.Moves.{asked, went_as, MovesAs, Moves};
+ghost use Rattle.cursor.specs.Going.{HeadersHold, Went, WentFrom};
 
-use crate::places::{Cursor, Place, headers_hold, image_of, key_at, place_refusal};
-use crate::walk::{Found, walk};
-use table::entries::MAX_KEY;
-use table::key_types::Number;
-use table::memtable_iter::{CursorTest, EntryCursor, test_cursor};
+use crate::places::{Cursor, Pair, Place};
+use table::key_types::LookupKey;
+use table::memtable_iter::{EntryCursor, Stays, hand_back, test_cursor};
 use table::questions::Cut;
 use table::refusals::Refusal;
 
-// What a move answers: where it leads, or why it was refused and the cursor that it was handed.
-#[derive(Clone, Copy)]
-pub enum Moved {
-    To(Cursor),
-    Refused(Refusal, Cursor),
-}
+impl<'a> Pair<'a> {
+    // Whether a cursor names a node of its table, or none.
+    fn is_inside(self, at: Cursor) -> bool
+        requires { HeadersHold self.first.now self.second.now }
+        ensures { result ≡ inside self.entry.first.now self.entry.second.now at }
+    {
+        let Cursor::On(p) = at else {
+            return true;
+        };
+        test_cursor(self.image_of(p.table), EntryCursor::On(p.node)).is_ok()
+    }
 
-// Whether a cursor names a node of its table, or none.
-fn is_inside<'a>(first: &'a [u8], second: &'a [u8], at: Cursor) -> bool
-    requires { HeadersHold first.now second.now }
-    ensures { result ≡ inside first.now second.now at }
-{
-    let Cursor::On(p) = at else {
-        return true;
-    };
-    let side = p.table;
-    let node = p.node;
-    match test_cursor(image_of(first, second, side), EntryCursor::On(node)) {
-        CursorTest::Passed(_) => true,
-        CursorTest::Failed(_) => false,
+    // The refusals of a move's arguments in their order: 1 of the first table, 1 of the second, 10, 3, 4.
+    fn test_move(self, snapshot: u64, at: Cursor, key: &[u8]) -> Result<(), Refusal>
+        ensures { answer_as (λ passed. tt) result ≡ asked self.entry.first.now self.entry.second.now snapshot at key.now }
+    {
+        if !self.headers_hold() {
+            return Err(Refusal::BadImage);
+        }
+        if !self.is_inside(at) {
+            return Err(Refusal::NoNode);
+        }
+        let _ = LookupKey::of(key, snapshot)?;
+        Ok(())
     }
-}
 
-// Whether the arguments of a move pass, or the first refusal that they get.
-#[derive(Drop)]
-pub(crate) enum MoveTest {
-    Passed,
-    Failed(Refusal),
-}
+    // To the first key with a row behind a cut.
+    fn go(self, snapshot: u64, cut: Cut, key: &[u8]) -> Result<Cursor, Refusal>
+        ensures { Went self.entry.first.now self.entry.second.now snapshot (cut_of cut) key.now result }
+    {
+        Ok(match self.walk(snapshot, cut, key)? {
+            Some(p) => Cursor::On(p),
+            None => Cursor::Nowhere,
+        })
+    }
 
-// The refusals of a move's arguments in their order: 1 of the first table, 1 of the second, 10, 3, 4.
-fn test_move<'a>(
-    first: &'a [u8],
-    second: &'a [u8],
-    snapshot: u64,
-    at: Cursor,
-    key: &[u8],
-) -> MoveTest
-    ensures { test_as result ≡ asked first.now second.now snapshot at key.now }
-{
-    if !headers_hold(first, second) {
-        return MoveTest::Failed(Refusal::BadImage);
+    // To the first key with a row behind a cut at the key of a place; a node that cannot be read is damage.
+    fn go_from(self, snapshot: u64, cut: Cut, p: Place) -> Result<Cursor, Refusal>
+        ensures { WentFrom self.entry.first.now self.entry.second.now snapshot (cut_of cut) p result }
+    {
+        if self.place_refusal(p).is_some() {
+            return Err(Refusal::Damaged);
+        }
+        self.go(snapshot, cut, self.key_at(p))
     }
-    if !is_inside(first, second, at) {
-        return MoveTest::Failed(Refusal::NoNode);
-    }
-    if !Number::fits(snapshot) {
-        return MoveTest::Failed(Refusal::BadNumber);
-    }
-    if key.len() > MAX_KEY {
-        return MoveTest::Failed(Refusal::LongKey);
-    }
-    MoveTest::Passed
-}
 
-// The end of a walk as a move's answer; damage hands back the cursor.
-fn end_on(found: Found, at: Cursor) -> Moved
-    ensures { result ≡ moved_of found at }
-{
-    match found {
-        Found::At(p) => Moved::To(Cursor::On(p)),
-        Found::Nothing => Moved::To(Cursor::Nowhere),
-        Found::Damaged => Moved::Refused(Refusal::Damaged, at),
+    // The moves, before a refused one hands back the cursor. They differ in the cut, in the key that is tested, and in what nowhere means.
+    fn to_first(self, snapshot: u64, at: Cursor) -> Result<Cursor, Refusal>
+        ensures { MovesAs rule.first self.entry.first.now self.entry.second.now snapshot at (went_as at result) }
+    {
+        self.test_move(snapshot, at, b"")?;
+        self.go(snapshot, Cut::All, b"")
     }
-}
 
-// To the first key with a row behind a cut.
-fn go<'a>(
-    first: &'a [u8],
-    second: &'a [u8],
-    snapshot: u64,
-    cut: Cut,
-    key: &[u8],
-    at: Cursor,
-) -> Moved
-    ensures { Went first.now second.now snapshot (cut_of cut) key.now at result }
-{
-    end_on(walk(first, second, snapshot, cut, key), at)
-}
-
-// To the first key with a row behind a cut at the key of a place; a node that cannot be read is damage.
-fn go_from<'a>(
-    first: &'a [u8],
-    second: &'a [u8],
-    snapshot: u64,
-    cut: Cut,
-    p: Place,
-    at: Cursor,
-) -> Moved
-    ensures { WentFrom first.now second.now snapshot (cut_of cut) p at result }
-{
-    if place_refusal(first, second, p) != 0 {
-        return Moved::Refused(Refusal::Damaged, at);
+    fn to_sought(self, snapshot: u64, at: Cursor, key: &[u8]) -> Result<Cursor, Refusal>
+        ensures { MovesAs (rule.seek key.now) self.entry.first.now self.entry.second.now snapshot at (went_as at result) }
+    {
+        self.test_move(snapshot, at, key)?;
+        self.go(snapshot, Cut::From, key)
     }
-    go(first, second, snapshot, cut, key_at(first, second, p), at)
+
+    fn to_next(self, snapshot: u64, at: Cursor) -> Result<Cursor, Refusal>
+        ensures { MovesAs rule.next self.entry.first.now self.entry.second.now snapshot at (went_as at result) }
+    {
+        self.test_move(snapshot, at, b"")?;
+        match at {
+            Cursor::Nowhere => self.go(snapshot, Cut::All, b""),
+            Cursor::On(p) => self.go_from(snapshot, Cut::Above, p),
+        }
+    }
+
+    fn to_previous(self, snapshot: u64, at: Cursor) -> Result<Cursor, Refusal>
+        ensures { MovesAs rule.previous self.entry.first.now self.entry.second.now snapshot at (went_as at result) }
+    {
+        self.test_move(snapshot, at, b"")?;
+        match at {
+            Cursor::Nowhere => Ok(Cursor::Nowhere),
+            Cursor::On(p) => self.go_from(snapshot, Cut::Below, p),
+        }
+    }
 }
 
 // To the least key with a row. Refusals 1, 10, 3, 9.
-pub fn first<'a>(first: &'a [u8], second: &'a [u8], snapshot: u64, at: Cursor) -> Moved
+pub fn first<'a>(
+    first: &'a [u8],
+    second: &'a [u8],
+    snapshot: u64,
+    at: Cursor,
+) -> Result<Cursor, Stays<Cursor>>
     ensures { Moves rule.first first.now second.now snapshot at result }
 {
-    match test_move(first, second, snapshot, at, &first[..0]) {
-        MoveTest::Failed(q) => Moved::Refused(q, at),
-        MoveTest::Passed => go(first, second, snapshot, Cut::All, &first[..0], at),
-    }
+    hand_back(Pair { first, second }.to_first(snapshot, at), at)
 }
 
 // To the least key with a row, at or above the given one. Refusals 1, 10, 3, 4, 9.
-pub fn seek<'a>(first: &'a [u8], second: &'a [u8], snapshot: u64, at: Cursor, key: &[u8]) -> Moved
+pub fn seek<'a>(
+    first: &'a [u8],
+    second: &'a [u8],
+    snapshot: u64,
+    at: Cursor,
+    key: &[u8],
+) -> Result<Cursor, Stays<Cursor>>
     ensures { Moves (rule.seek key.now) first.now second.now snapshot at result }
 {
-    match test_move(first, second, snapshot, at, key) {
-        MoveTest::Failed(q) => Moved::Refused(q, at),
-        MoveTest::Passed => go(first, second, snapshot, Cut::From, key, at),
-    }
+    hand_back(Pair { first, second }.to_sought(snapshot, at, key), at)
 }
 
 // To the least key with a row above the cursor's; from nowhere the least of all. Refusals 1, 10, 3, 9.
-pub fn next<'a>(first: &'a [u8], second: &'a [u8], snapshot: u64, at: Cursor) -> Moved
+pub fn next<'a>(
+    first: &'a [u8],
+    second: &'a [u8],
+    snapshot: u64,
+    at: Cursor,
+) -> Result<Cursor, Stays<Cursor>>
     ensures { Moves rule.next first.now second.now snapshot at result }
 {
-    match test_move(first, second, snapshot, at, &first[..0]) {
-        MoveTest::Failed(q) => Moved::Refused(q, at),
-        MoveTest::Passed => match at {
-            Cursor::Nowhere => go(first, second, snapshot, Cut::All, &first[..0], at),
-            Cursor::On(p) => go_from(first, second, snapshot, Cut::Above, p, at),
-        },
-    }
+    hand_back(Pair { first, second }.to_next(snapshot, at), at)
 }
 
 // To the greatest key with a row below the cursor's; from nowhere nowhere. Refusals 1, 10, 3, 9.
-pub fn prev<'a>(first: &'a [u8], second: &'a [u8], snapshot: u64, at: Cursor) -> Moved
+pub fn prev<'a>(
+    first: &'a [u8],
+    second: &'a [u8],
+    snapshot: u64,
+    at: Cursor,
+) -> Result<Cursor, Stays<Cursor>>
     ensures { Moves rule.previous first.now second.now snapshot at result }
 {
-    match test_move(first, second, snapshot, at, &first[..0]) {
-        MoveTest::Failed(q) => Moved::Refused(q, at),
-        MoveTest::Passed => match at {
-            Cursor::Nowhere => Moved::To(Cursor::Nowhere),
-            Cursor::On(p) => go_from(first, second, snapshot, Cut::Below, p, at),
-        },
-    }
+    hand_back(Pair { first, second }.to_previous(snapshot, at), at)
 }

@@ -2,18 +2,20 @@
 // and of equal numbers, the first table's stands.
 ghost use Rattle.std.specs.Prelude.{◌≡◌};
 ghost use Rattle.table.specs.Questions.{cut_of};
+ghost use Rattle.table.specs.Memtable.{lookup_is};
 ghost use Rattle.cursor.specs.Places.{key_at};
-ghost use Rattle.cursor.specs.Merging.{number_at};
-ghost use Rattle.table.specs.Memtable.{lookup_as};
-ghost use Rattle.cursor.specs.Pairs.{answers_of, looks_taken, FewLooks, told_by, pair_as, GetsPair};
-ghost use Rattle.cursor.specs.Merging.{met_at, met_in, nearer_of, sooner_of, NearestOfAll, version_in, newer_of, NewestOfAll};
+ghost use Rattle.cursor.specs.Merging.{number_at, met_at, nearer_of, sooner_of, NearestOfAll, version_in, newer_of, NewestOfAll};
+ghost use Rattle.cursor.specs.Pairs.{FewLooks, told_of, pair_is, GetsPair};
 
-use crate::places::{Place, Side, headers_hold, key_at, number_at};
-use table::memtable::{Lookup, get};
-use table::questions::{Cut, Hit, NewestAt, before, near, newest};
-use table::refusals::Refusal;
+use crate::places::{Pair, Place, Side};
+use table::key_types::Kind;
+use table::memtable::{Lookup, Newest, get};
+use table::nodes::header_holds;
+use table::questions::{Cut, before, near, newest};
+use table::refusals::{Damage, Refusal};
 
-// A key that comes next: a place that has it, and which of the tables it is the nearest key of.
+// A key that comes next: a place that has it, and which of the tables it is the nearest key of. Two flags, as there are two tables:
+// neither follows from the place.
 #[derive(Clone, Copy)]
 pub(crate) struct Meeting {
     pub place: Place,
@@ -21,158 +23,101 @@ pub(crate) struct Meeting {
     pub second: bool,
 }
 
-// The key that comes next behind a cut, or that there is none.
-#[derive(Drop)]
-pub(crate) enum Nearest {
-    At(Meeting),
-    Nothing,
-    Damaged,
-}
-
 // A key met in one table.
 fn met_at(side: Side, node: usize) -> Meeting
     ensures { result ≡ met_at side node }
 {
-    match side {
-        Side::First => Meeting {
-            place: Place {
-                table: Side::First,
-                node,
-            },
-            first: true,
-            second: false,
-        },
-        Side::Second => Meeting {
-            place: Place {
-                table: Side::Second,
-                node,
-            },
-            first: false,
-            second: true,
-        },
-    }
-}
-
-// One table's answer.
-fn met_in(side: Side, hit: Hit) -> Nearest
-    ensures { result ≡ met_in side hit }
-{
-    match hit {
-        Hit::At(node) => Nearest::At(met_at(side, node)),
-        Hit::Nothing => Nearest::Nothing,
-        Hit::Damaged => Nearest::Damaged,
-    }
-}
-
-// Of two keys the one that comes before the other; equal ones are met in both tables, at the first's place.
-fn nearer<'a>(first: &'a [u8], second: &'a [u8], cut: Cut, x: Meeting, y: Meeting) -> Meeting
-    ensures { result ≡ nearer_of (key_at first.now second.now) (cut_of cut) x y }
-{
-    let place = x.place;
-    let k = key_at(first, second, place);
-    let l = key_at(first, second, y.place);
-    if before(cut, l, k) {
-        return y;
-    }
-    if before(cut, k, l) {
-        return x;
-    }
     Meeting {
-        place,
-        first: true,
-        second: true,
+        place: Place { table: side, node },
+        first: side == Side::First,
+        second: side == Side::Second,
     }
 }
 
-// The sooner of two answers.
-fn sooner<'a>(first: &'a [u8], second: &'a [u8], cut: Cut, a: Nearest, b: Nearest) -> Nearest
-    ensures { result ≡ sooner_of (key_at first.now second.now) (cut_of cut) a b }
-{
-    match a {
-        Nearest::Damaged => Nearest::Damaged,
-        Nearest::Nothing => b,
-        Nearest::At(x) => match b {
-            Nearest::Damaged => Nearest::Damaged,
-            Nearest::Nothing => Nearest::At(x),
-            Nearest::At(y) => Nearest::At(nearer(first, second, cut, x, y)),
-        },
-    }
-}
-
-// The key that comes next behind a cut, over both tables.
-pub(crate) fn nearest_key<'a>(first: &'a [u8], second: &'a [u8], cut: Cut, key: &[u8]) -> Nearest
-    ensures { NearestOfAll first.now second.now (cut_of cut) key.now result }
-{
-    let a = met_in(Side::First, near(first, cut, key));
-    let b = met_in(Side::Second, near(second, cut, key));
-    sooner(first, second, cut, a, b)
-}
-
-// An entry of a key: its place, and whether it is a value.
-#[derive(Drop)]
+// An entry of a key: its place and its type.
+#[derive(Clone, Copy)]
 pub(crate) struct Version {
     pub place: Place,
-    pub value: bool,
+    pub kind: Kind,
 }
 
-// The newest entry of a key, or that there is none.
-#[derive(Drop)]
-pub(crate) enum Newest {
-    At(Version),
-    Nothing,
-    Damaged,
-}
-
-// One table's answer.
-fn version_in(side: Side, a: NewestAt) -> Newest
-    ensures { result ≡ version_in side a }
+// An entry of one table, which is given beside it, so this is no From.
+fn version_in(side: Side, entry: Newest) -> Version
+    ensures { result ≡ version_in side entry }
 {
-    match a {
-        NewestAt::Value(node) => Newest::At(Version {
-            place: Place { table: side, node },
-            value: true,
-        }),
-        NewestAt::Deletion(node) => Newest::At(Version {
-            place: Place { table: side, node },
-            value: false,
-        }),
-        NewestAt::Absent => Newest::Nothing,
-        NewestAt::Damaged => Newest::Damaged,
-    }
-}
-
-// The newer of two answers.
-fn newer<'a>(first: &'a [u8], second: &'a [u8], a: Newest, b: Newest) -> Newest
-    ensures { result ≡ newer_of (number_at first.now second.now) a b }
-{
-    match a {
-        Newest::Damaged => Newest::Damaged,
-        Newest::Nothing => b,
-        Newest::At(x) => match b {
-            Newest::Damaged => Newest::Damaged,
-            Newest::Nothing => Newest::At(x),
-            Newest::At(y) => {
-                if number_at(first, second, x.place) < number_at(first, second, y.place) {
-                    return Newest::At(y);
-                }
-                Newest::At(x)
-            }
+    Version {
+        place: Place {
+            table: side,
+            node: entry.node,
         },
+        kind: entry.kind,
     }
 }
 
-// The newest entry of a key up to a snapshot, over both tables.
-pub(crate) fn newest_entry<'a>(
-    first: &'a [u8],
-    second: &'a [u8],
-    key: &[u8],
-    snapshot: u64,
-) -> Newest
-    ensures { NewestOfAll first.now second.now key.now snapshot result }
-{
-    let a = version_in(Side::First, newest(first, key, snapshot));
-    let b = version_in(Side::Second, newest(second, key, snapshot));
-    newer(first, second, a, b)
+impl<'a> Pair<'a> {
+    // Of two keys the one that comes before the other; equal ones are met in both tables, at the first's place.
+    fn nearer(self, cut: Cut, x: Meeting, y: Meeting) -> Meeting
+        ensures { result ≡ nearer_of (key_at self.entry.first.now self.entry.second.now) (cut_of cut) x y }
+    {
+        let k = self.key_at(x.place);
+        let l = self.key_at(y.place);
+        if before(cut, l, k) {
+            return y;
+        }
+        if before(cut, k, l) {
+            return x;
+        }
+        Meeting {
+            place: x.place,
+            first: true,
+            second: true,
+        }
+    }
+
+    // The sooner of two keys that may be missing.
+    fn sooner(self, cut: Cut, a: Option<Meeting>, b: Option<Meeting>) -> Option<Meeting>
+        ensures { result ≡ sooner_of (key_at self.entry.first.now self.entry.second.now) (cut_of cut) a b }
+    {
+        match (a, b) {
+            (Some(x), Some(y)) => Some(self.nearer(cut, x, y)),
+            (Some(x), None) => Some(x),
+            (None, b) => b,
+        }
+    }
+
+    // The key that comes next behind a cut, over both tables.
+    pub(crate) fn nearest_key(self, cut: Cut, key: &[u8]) -> Result<Option<Meeting>, Damage>
+        ensures { NearestOfAll self.entry.first.now self.entry.second.now (cut_of cut) key.now result }
+    {
+        let a = near(self.first, cut, key)?;
+        let b = near(self.second, cut, key)?;
+        let a = a.map(|node| met_at(Side::First, node));
+        let b = b.map(|node| met_at(Side::Second, node));
+        Ok(self.sooner(cut, a, b))
+    }
+
+    // The newer of two entries that may be missing. What is compared differs from `sooner`, and a tie there has an answer of its own; one
+    // function for both would take the choice as a closure, and the law of the choice with it.
+    fn newer(self, a: Option<Version>, b: Option<Version>) -> Option<Version>
+        ensures { result ≡ newer_of (number_at self.entry.first.now self.entry.second.now) a b }
+    {
+        match (a, b) {
+            (Some(x), Some(y)) if self.number_at(x.place) < self.number_at(y.place) => Some(y),
+            (Some(x), _) => Some(x),
+            (None, b) => b,
+        }
+    }
+
+    // The newest entry of a key up to a snapshot, over both tables.
+    pub(crate) fn newest_entry(self, key: &[u8], snapshot: u64) -> Result<Option<Version>, Damage>
+        ensures { NewestOfAll self.entry.first.now self.entry.second.now key.now snapshot result }
+    {
+        let a = newest(self.first, key, snapshot)?;
+        let b = newest(self.second, key, snapshot)?;
+        let a = a.map(|entry| version_in(Side::First, entry));
+        let b = b.map(|entry| version_in(Side::Second, entry));
+        Ok(self.newer(a, b))
+    }
 }
 
 // What a lookup in a pair answers, with the looks that it took over the tables asked.
@@ -181,62 +126,47 @@ pub enum PairLookup {
     Found { place: Place, looks: usize },
     Deleted { looks: usize },
     Absent { looks: usize },
-    Refused(Refusal),
 }
 
-// Whether the first table answers: it does unless it says absent.
-fn answers(a: Lookup) -> bool
-    ensures { result ≡ answers_of (lookup_as a) }
-{
-    match a {
-        Lookup::Found { node: _, looks: _ } => true,
-        Lookup::Deleted { looks: _ } => true,
-        Lookup::Absent { looks: _ } => false,
-        Lookup::Refused(_) => true,
-    }
-}
-
-// The looks of a lookup; of a refused one none.
-fn looks_of(a: Lookup) -> usize
-    ensures { result ≡ looks_taken (lookup_as a) }
-{
-    match a {
-        Lookup::Found { node: _, looks } => looks,
-        Lookup::Deleted { looks } => looks,
-        Lookup::Absent { looks } => looks,
-        Lookup::Refused(_) => 0,
-    }
-}
-
-// One table's answer, with the looks that were taken before it.
+// One table's answer, with the looks that were taken before it; table and looks are given beside it, so this is no From.
 fn told_by(side: Side, before: usize, a: Lookup) -> PairLookup
-    requires { FewLooks before (lookup_as a) }
-    ensures { pair_as result ≡ told_by side before (lookup_as a) }
+    requires { FewLooks before (lookup_is a) }
+    ensures { pair_is result ≡ told_of side before (lookup_is a) }
 {
-    let looks = before + looks_of(a);
     match a {
-        Lookup::Found { node, looks: _ } => PairLookup::Found {
+        Lookup::Found { node, looks } => PairLookup::Found {
             place: Place { table: side, node },
-            looks,
+            looks: before + looks,
         },
-        Lookup::Deleted { looks: _ } => PairLookup::Deleted { looks },
-        Lookup::Absent { looks: _ } => PairLookup::Absent { looks },
-        Lookup::Refused(q) => PairLookup::Refused(q),
+        Lookup::Deleted { looks } => PairLookup::Deleted {
+            looks: before + looks,
+        },
+        Lookup::Absent { looks } => PairLookup::Absent {
+            looks: before + looks,
+        },
     }
 }
 
 // The newest entry of a key up to a snapshot in a pair: the first table is asked, the second only if the first says absent.
 // Refusals 1 (first table, then second), 3, 4, 9.
-pub fn get_pair(first: &[u8], second: &[u8], key: &[u8], snapshot: u64) -> PairLookup
+pub fn get_pair(
+    first: &[u8],
+    second: &[u8],
+    key: &[u8],
+    snapshot: u64,
+) -> Result<PairLookup, Refusal>
     ensures { GetsPair first.now second.now key.now snapshot result }
 {
-    if !headers_hold(first, second) {
-        return PairLookup::Refused(Refusal::BadImage);
+    if !header_holds(first) {
+        return Err(Refusal::BadImage);
     }
-    let a = get(first, key, snapshot);
-    if answers(a) {
-        return told_by(Side::First, 0, a);
+    if !header_holds(second) {
+        return Err(Refusal::BadImage);
     }
-    let looks = looks_of(a);
-    told_by(Side::Second, looks, get(second, key, snapshot))
+    let a = get(first, key, snapshot)?;
+    let Lookup::Absent { looks } = a else {
+        return Ok(told_by(Side::First, 0, a));
+    };
+    let b = get(second, key, snapshot)?;
+    Ok(told_by(Side::Second, looks, b))
 }

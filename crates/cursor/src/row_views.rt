@@ -3,119 +3,102 @@
 // No snapshot is asked for, so in sound tables additions never change what a stored cursor shows.
 ghost use Rattle.std.specs.Prelude.{◌≡◌};
 ghost use Rattle.image.specs.EntryMoves.{key_view, value_view};
-ghost use Rattle.cursor.specs.RowSpans.{row_span_as, span_in, part_bytes, RowSpanLies, SpansAt, RowSpans};
+ghost use Rattle.table.specs.EntryViews.{view_of};
+ghost use Rattle.table.specs.Refusals.{refusal_number};
+ghost use Rattle.cursor.specs.RowSpans.{row_span_as, part_bytes, RowSpanLies, RowSpans};
 ghost use Rattle.cursor.specs.Rows.{ShowsKey, ShowsValue, Refuses};
 
-use crate::places::{Cursor, Place, Side, headers_hold, image_of, place_refusal};
-use table::entry_views::{SpanOn, entry_key_span, entry_value_span};
+use crate::places::{Cursor, Pair, Side};
+use table::entry_views::{Shown, Span, entry_span};
 use table::memtable_iter::EntryCursor;
 use table::refusals::Refusal;
 
-// Nowhere, a part of one of the two images, or why it is refused. Of a deletion it is the empty part at 0 of its image.
+// A part of one of the two images. Of a deletion it is the empty part at 0 of its image.
 #[derive(Clone, Copy)]
-pub enum RowSpan {
-    Nowhere,
-    In { table: Side, at: usize, len: usize },
-    Refused(Refusal),
+pub struct RowSpan {
+    pub table: Side,
+    pub span: Span,
 }
 
-// One table's answer.
-fn span_in(side: Side, span: SpanOn) -> RowSpan
-    ensures { result ≡ span_in side span }
-{
-    match span {
-        SpanOn::At { at, len } => RowSpan::In {
-            table: side,
-            at,
-            len,
-        },
-        SpanOn::Refused(q) => RowSpan::Refused(q),
+impl<'a> Pair<'a> {
+    // Where key or value of the row at a cursor stands, if it is not nowhere.
+    fn row_span(self, at: Cursor, what: Shown) -> Result<Option<RowSpan>, Refusal>
+        ensures { RowSpans (view_of what) self.entry.first.now self.entry.second.now at result }
+    {
+        if !self.headers_hold() {
+            return Err(Refusal::BadImage);
+        }
+        let Cursor::On(p) = at else {
+            return Ok(None);
+        };
+        let span = entry_span(self.image_of(p.table), EntryCursor::On(p.node), what)?;
+        Ok(Some(RowSpan {
+            table: p.table,
+            span,
+        }))
     }
-}
 
-// Where the key at a place stands.
-fn key_span_at<'a>(first: &'a [u8], second: &'a [u8], p: Place) -> RowSpan
-    ensures { SpansAt key_view first.now second.now p result }
-{
-    let side = p.table;
-    let node = p.node;
-    let image = image_of(first, second, side);
-    span_in(side, entry_key_span(image, EntryCursor::On(node)))
-}
-
-// Where the value at a place stands.
-fn value_span_at<'a>(first: &'a [u8], second: &'a [u8], p: Place) -> RowSpan
-    ensures { SpansAt value_view first.now second.now p result }
-{
-    let side = p.table;
-    let node = p.node;
-    let image = image_of(first, second, side);
-    span_in(side, entry_value_span(image, EntryCursor::On(node)))
+    // The part of the first or of the second image that a span names; nowhere, and where it is refused, it is empty.
+    fn part_of(self, span: Result<Option<RowSpan>, Refusal>) -> &'a [u8]
+        requires { RowSpanLies self.first.now self.second.now span }
+        ensures { result.now ≡ part_bytes self.entry.first.now self.entry.second.now (row_span_as span) }
+    {
+        let Ok(Some(part)) = span else {
+            return &self.first[..0];
+        };
+        let image = self.image_of(part.table);
+        &image[part.span.at..part.span.at + part.span.len]
+    }
 }
 
 // Where the key of the row at a cursor stands. Refusals 1 (first table, then second), 10, 9.
-pub fn row_key_span<'a>(first: &'a [u8], second: &'a [u8], at: Cursor) -> RowSpan
+pub fn row_key_span<'a>(
+    first: &'a [u8],
+    second: &'a [u8],
+    at: Cursor,
+) -> Result<Option<RowSpan>, Refusal>
     ensures { RowSpans key_view first.now second.now at result }
 {
-    if !headers_hold(first, second) {
-        return RowSpan::Refused(Refusal::BadImage);
-    }
-    let Cursor::On(p) = at else {
-        return RowSpan::Nowhere;
-    };
-    key_span_at(first, second, p)
+    Pair { first, second }.row_span(at, Shown::Key)
 }
 
 // Where the value of the row at a cursor stands; a deletion's is empty. Refusals 1 (first table, then second), 10, 9.
-pub fn row_value_span<'a>(first: &'a [u8], second: &'a [u8], at: Cursor) -> RowSpan
+pub fn row_value_span<'a>(
+    first: &'a [u8],
+    second: &'a [u8],
+    at: Cursor,
+) -> Result<Option<RowSpan>, Refusal>
     ensures { RowSpans value_view first.now second.now at result }
 {
-    if !headers_hold(first, second) {
-        return RowSpan::Refused(Refusal::BadImage);
-    }
-    let Cursor::On(p) = at else {
-        return RowSpan::Nowhere;
-    };
-    value_span_at(first, second, p)
-}
-
-// The part of the first or of the second image that a span names; nowhere, and where it is refused, it is empty.
-fn part_of<'a>(first: &'a [u8], second: &'a [u8], span: RowSpan) -> &'a [u8]
-    requires { RowSpanLies first.now second.now span }
-    ensures { result.now ≡ part_bytes first.now second.now (row_span_as span) }
-{
-    let RowSpan::In { table, at, len } = span else {
-        return &first[..0];
-    };
-    let image = image_of(first, second, table);
-    let end = at + len;
-    &image[at..end]
+    Pair { first, second }.row_span(at, Shown::Value)
 }
 
 // The key of the row at a cursor; nowhere, and where it is refused, it is empty.
 pub fn row_key<'a>(first: &'a [u8], second: &'a [u8], at: Cursor) -> &'a [u8]
     ensures { ShowsKey first.now second.now at result.now }
 {
-    part_of(first, second, row_key_span(first, second, at))
+    let pair = Pair { first, second };
+    pair.part_of(pair.row_span(at, Shown::Key))
 }
 
 // The value of the row at a cursor; nowhere, of a deletion, and where it is refused, it is empty.
 pub fn row_value<'a>(first: &'a [u8], second: &'a [u8], at: Cursor) -> &'a [u8]
     ensures { ShowsValue first.now second.now at result.now }
 {
-    part_of(first, second, row_value_span(first, second, at))
+    let pair = Pair { first, second };
+    pair.part_of(pair.row_span(at, Shown::Value))
 }
 
-// The number of the refusal that the views get at a cursor, or 0. Refusals 1 (first table, then second), 10, 9.
-pub fn row_refusal<'a>(first: &'a [u8], second: &'a [u8], at: Cursor) -> u32
-    ensures { Refuses first.now second.now at result }
+// The refusal that the views get at a cursor, if they are refused. Refusals 1 (first table, then second), 10, 9.
+pub fn row_refusal<'a>(first: &'a [u8], second: &'a [u8], at: Cursor) -> Option<Refusal>
+    ensures { Refuses first.now second.now at (refusal_number result) }
 {
-    if !headers_hold(first, second) {
-        let q = Refusal::BadImage;
-        return q.number();
+    let pair = Pair { first, second };
+    if !pair.headers_hold() {
+        return Some(Refusal::BadImage);
     }
     let Cursor::On(p) = at else {
-        return 0;
+        return None;
     };
-    place_refusal(first, second, p)
+    pair.place_refusal(p)
 }

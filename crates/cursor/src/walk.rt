@@ -3,151 +3,94 @@
 // bytes that hold still get there: the count shows that the walk ends, and ends it when bytes change under it.
 ghost use Rattle.std.specs.Prelude.{◌≡◌};
 ghost use Rattle.table.specs.Questions.{cut_of};
-ghost use Rattle.cursor.specs.Walks.{Stepped, cut_from, key_from, tick_of, spent_of, Walked};
+ghost use Rattle.cursor.specs.Walks.{Stepped, cut_from, key_from, spent_of, Walked};
 
-use crate::merging_iter::{Meeting, Nearest, Newest, nearest_key, newest_entry};
-use crate::places::{Place, key_at};
+use crate::merging_iter::Meeting;
+use crate::places::{Pair, Place};
+use table::key_types::Kind;
 use table::questions::{Cut, past, population};
+use table::refusals::Damage;
 
-// A turn of a walk: it ends on a row, passes a key that has none, or finds no more keys.
-#[derive(Drop)]
+// A turn of a walk: it ends on a row, passes a key that has none, or finds no more keys. Three ways on, and only one of them ends the
+// walk with a place, so no Option says it.
+#[derive(Clone, Copy)]
 pub(crate) enum Step {
     Done(Place),
     Pass(Meeting),
     End,
-    Damaged,
 }
 
-// One turn: the next key behind the cut, and its row.
-fn take_step<'a>(first: &'a [u8], second: &'a [u8], snapshot: u64, cut: Cut, key: &[u8]) -> Step
-    ensures { Stepped first.now second.now snapshot (cut_of cut) key.now result }
-{
-    match nearest_key(first, second, cut, key) {
-        Nearest::Damaged => Step::Damaged,
-        Nearest::Nothing => Step::End,
-        Nearest::At(m) => {
-            let k = key_at(first, second, m.place);
-            match newest_entry(first, second, k, snapshot) {
-                Newest::Damaged => Step::Damaged,
-                Newest::Nothing => Step::Pass(m),
-                Newest::At(v) => {
-                    let place = v.place;
-                    if v.value {
-                        return Step::Done(place);
-                    }
-                    Step::Pass(m)
-                }
-            }
-        }
-    }
-}
-
-// Where a walk has come to: at its start, or past the key of a place.
-#[derive(Drop)]
-pub(crate) enum Reached {
-    Start,
-    Past(Place),
-}
-
-// The turn from where the walk has come to.
-fn take_turn<'a>(
-    first: &'a [u8],
-    second: &'a [u8],
-    snapshot: u64,
-    cut: Cut,
-    key: &[u8],
-    reached: Reached,
-) -> Step
-    ensures { Stepped first.now second.now snapshot (cut_from (cut_of cut) reached) (key_from first.now second.now key.now reached) result }
-{
-    match reached {
-        Reached::Start => take_step(first, second, snapshot, cut, key),
-        Reached::Past(p) => {
-            let k = key_at(first, second, p);
-            take_step(first, second, snapshot, past(cut), k)
-        }
-    }
-}
-
-// How many nodes of each table may still be met.
-#[derive(Drop)]
+// How many nodes of each table may still be met; of each by itself, as a key may be met in one or in both.
+#[derive(Clone, Copy)]
 pub(crate) struct Left {
     pub first: usize,
     pub second: usize,
 }
 
-// What is left after a key is passed, or that a table has been met too often.
-#[derive(Drop)]
-pub(crate) enum Spent {
-    Rest(Left),
-    Over,
-}
-
-// What a key counts against a table: one node if it was met there.
-fn tick(met: bool) -> usize
-    ensures { result ≡ tick_of met }
-{
-    if met {
-        return 1;
+impl Left {
+    // What is left after a key is passed, which counts against each table whose nearest key it was; none where a table has been
+    // met too often.
+    fn spend(self, m: Meeting) -> Option<Left>
+        ensures { result ≡ spent_of self m }
+    {
+        Some(Left {
+            first: self.first.checked_sub(usize::from(m.first))?,
+            second: self.second.checked_sub(usize::from(m.second))?,
+        })
     }
-    0
 }
 
-// A passed key counts against each table whose nearest key it was.
-fn spend(left: Left, m: Meeting) -> Spent
-    ensures { result ≡ spent_of left m }
-{
-    let a = tick(m.first);
-    let b = tick(m.second);
-    if left.first < a {
-        return Spent::Over;
+impl<'a> Pair<'a> {
+    // One turn: the next key behind the cut, and its row.
+    fn take_step(self, snapshot: u64, cut: Cut, key: &[u8]) -> Result<Step, Damage>
+        ensures { Stepped self.entry.first.now self.entry.second.now snapshot (cut_of cut) key.now result }
+    {
+        let Some(met) = self.nearest_key(cut, key)? else {
+            return Ok(Step::End);
+        };
+        let Some(version) = self.newest_entry(self.key_at(met.place), snapshot)? else {
+            return Ok(Step::Pass(met));
+        };
+        Ok(match version.kind {
+            Kind::Value => Step::Done(version.place),
+            Kind::Deletion => Step::Pass(met),
+        })
     }
-    if left.second < b {
-        return Spent::Over;
+
+    // The turn from where the walk has come to: its start, or past the key of a place. Snapshot, cut and key are what a walk is asked;
+    // the caller's key serves its first turn alone, so the three are no one value that goes from turn to turn.
+    fn take_turn(
+        self,
+        snapshot: u64,
+        cut: Cut,
+        key: &[u8],
+        reached: Option<Place>,
+    ) -> Result<Step, Damage>
+        ensures { Stepped self.entry.first.now self.entry.second.now snapshot (cut_from (cut_of cut) reached) (key_from self.entry.first.now self.entry.second.now key.now reached) result }
+    {
+        match reached {
+            None => self.take_step(snapshot, cut, key),
+            Some(p) => self.take_step(snapshot, past(cut), self.key_at(p)),
+        }
     }
-    Spent::Rest(Left {
-        first: left.first - a,
-        second: left.second - b,
-    })
-}
 
-// The place that a walk ends on, or that there is none.
-#[derive(Drop)]
-pub(crate) enum Found {
-    At(Place),
-    Nothing,
-    Damaged,
-}
-
-// From the cut on, the first key that has a row: the place of the entry that gives it.
-pub(crate) fn walk<'a>(
-    first: &'a [u8],
-    second: &'a [u8],
-    snapshot: u64,
-    cut: Cut,
-    key: &[u8],
-) -> Found
-    ensures { Walked first.now second.now snapshot (cut_of cut) key.now result }
-{
-    let n = population(first);
-    let m = population(second);
-    let mut left = Left {
-        first: n,
-        second: m,
-    };
-    let mut reached = Reached::Start;
-    loop {
-        match take_turn(first, second, snapshot, cut, key, reached) {
-            Step::Damaged => return Found::Damaged,
-            Step::End => return Found::Nothing,
-            Step::Done(p) => return Found::At(p),
-            Step::Pass(met) => {
-                let Spent::Rest(rest) = spend(left, met) else {
-                    return Found::Damaged;
-                };
-                let place = met.place;
-                left = rest;
-                reached = Reached::Past(place);
+    // From the cut on, the first key that has a row, if there is one: the place of the entry that gives it.
+    pub(crate) fn walk(self, snapshot: u64, cut: Cut, key: &[u8]) -> Result<Option<Place>, Damage>
+        ensures { Walked self.entry.first.now self.entry.second.now snapshot (cut_of cut) key.now result }
+    {
+        let mut left = Left {
+            first: population(self.first),
+            second: population(self.second),
+        };
+        let mut reached = None;
+        loop {
+            match self.take_turn(snapshot, cut, key, reached)? {
+                Step::End => return Ok(None),
+                Step::Done(p) => return Ok(Some(p)),
+                Step::Pass(met) => {
+                    left = left.spend(met).ok_or(Damage)?;
+                    reached = Some(met.place);
+                }
             }
         }
     }

@@ -1,11 +1,11 @@
 // Made by tools/moving from crates/table/src/entries.rt: its bodies, other contracts.
 // The bytes of an entry: their number, written and read.
-ghost use Rattle.std.specs.Prelude.{◌≡◌, ◌≤◌, length};
-ghost use Rattle.moving.specs.Entries.{entry_size, Writable, KeyInside, KeyedFits, PartsFit};
+ghost use Rattle.std.specs.Prelude.{◌≡◌, ◌+◌, ◌≤◌, length};
+ghost use Rattle.moving.specs.Entries.{entry_size, KeyInside, KeyedFits, PartsFit};
 
-use crate::key_types::{
-    LenRead, Number, Tag, compare_entries, get_tag, len_at, len_size, put_len, put_tag,
-};
+use crate::key_types::{Kind, LookupKey, Number, Tag, get_tag, len_at, len_size, put_len, put_tag};
+use crate::refusals::Fault;
+use crate::tested::Entry;
 use crate::words::put_bytes;
 
 // The most bytes of a key, and of a value.
@@ -13,28 +13,40 @@ pub const MAX_KEY: usize = 1024;
 
 pub(crate) const MAX_VALUE: usize = 4096;
 
-// How many bytes an entry takes whose key and value have these lengths.
-pub(crate) fn entry_size(key_len: usize, value_len: usize) -> usize
-    requires { (key_len ≤ 1024) × (value_len ≤ 4096) }
-    ensures { (result ≡ entry_size key_len value_len) × (result ≤ 5132) }
-{
-    len_size(key_len + 8) + key_len + 8 + len_size(value_len) + value_len
+impl<'a> Entry<'a> {
+    // Its key with its number.
+    pub(crate) fn lookup_key(self) -> LookupKey<'a> {
+        LookupKey {
+            key: self.key,
+            number: self.number,
+        }
+    }
+
+    // How many bytes it takes.
+    pub(crate) fn size(self) -> usize
+        ensures { (result ≡ entry_size (length self.entry.key.now) (length self.entry.value.now)) × (result ≤ 5132) }
+    {
+        let key_len = self.key.len();
+        let value_len = self.value.len();
+        len_size(key_len + 8) + key_len + 8 + len_size(value_len) + value_len
+    }
+
+    // Writes it at a place: length of key and tag, key, tag, length of value, value.
+    pub(crate) fn put(self, s: &mut [u8], at: usize)
+        requires { at + entry_size (length self.key.now) (length self.value.now) ≤ length s.old }
+        ensures { length s.new ≡ length s.old }
+    {
+        let key_at = put_len(s, at, self.key.len() + 8);
+        put_bytes(s, key_at, self.key);
+        let tag_at = key_at + self.key.len();
+        put_tag(s, tag_at, Tag::pack(self.number, self.kind));
+        let value_at = put_len(s, tag_at + 8, self.value.len());
+        put_bytes(s, value_at, self.value);
+    }
 }
 
-// Writes an entry at a place: length of key and tag, key, tag, length of value, value.
-pub(crate) fn put_entry(s: &mut [u8], at: usize, key: &[u8], number: u64, kind: u8, value: &[u8])
-    requires { Writable (length s.old) at (length key.now) (length value.now) }
-    ensures { length s.new ≡ length s.old }
-{
-    let key_at = put_len(s, at, key.len() + 8);
-    put_bytes(s, key_at, key);
-    let tag_at = key_at + key.len();
-    put_tag(s, tag_at, Tag::pack(Number { is: number }, kind));
-    let value_at = put_len(s, tag_at + 8, value.len());
-    put_bytes(s, value_at, value);
-}
-
-// Where the key of an entry stands, its tag, and where its value's length begins.
+// Where the key of an entry stands, its tag, and where its value's length begins. That the key lies in the image is asked where it is
+// used: a value that carried the fact would carry the image too.
 #[derive(Clone, Copy)]
 pub(crate) struct Keyed {
     pub key_at: usize,
@@ -43,112 +55,93 @@ pub(crate) struct Keyed {
     pub rest: usize,
 }
 
-// Key and tag of an entry, or the place of the byte at fault.
-#[derive(Drop)]
-pub(crate) enum KeyedRead {
-    Got(Keyed),
-    Bad(usize),
-}
+impl Keyed {
+    // The key, where it stands.
+    pub(crate) fn key(self, s: &[u8]) -> &[u8]
+        requires { KeyInside (length s.now) self }
+    {
+        &s[self.key_at..self.key_at + self.key_len]
+    }
 
-// Key and tag of the entry at o, which ends before the place end.
-pub(crate) fn keyed_at(s: &[u8], o: usize, end: usize) -> KeyedRead
-    requires { end ≤ length s.now }
-    ensures { KeyedFits end result }
-{
-    let len = len_at(s, end, o);
-    match len {
-        LenRead::Bad(fault) => KeyedRead::Bad(fault),
-        LenRead::Got { is, after } => {
-            if is < 8 {
-                return KeyedRead::Bad(o);
-            }
-            if is > MAX_KEY + 8 {
-                return KeyedRead::Bad(o);
-            }
-            let rest = after + is;
-            if rest > end {
-                return KeyedRead::Bad(o);
-            }
-            let key_len = is - 8;
-            let tag = get_tag(s, after + key_len);
-            KeyedRead::Got(Keyed {
-                key_at: after,
-                key_len: key_len,
-                tag: tag,
-                rest: rest,
-            })
+    // The key with the number.
+    pub(crate) fn lookup_key(self, s: &[u8]) -> LookupKey<'_>
+        requires { KeyInside (length s.now) self }
+    {
+        LookupKey {
+            key: self.key(s),
+            number: self.tag.number(),
         }
+    }
+
+    // Whether its entry comes before another in the order; the keys are compared where they stand.
+    pub(crate) fn precedes(self, s: &[u8], other: Keyed) -> bool
+        requires { KeyInside (length s.now) self × KeyInside (length s.now) other }
+    {
+        self.lookup_key(s).compare(other.lookup_key(s)).is_lt()
     }
 }
 
-// The key of an entry, where it stands.
-pub(crate) fn key_in(s: &[u8], k: Keyed) -> &[u8]
-    requires { KeyInside (length s.now) k }
+// Key and tag of the entry at o, which ends before the place end. Image and end, and not a shorter slice: what is promised is said of
+// the image, here and of the two other readers that take an end.
+pub(crate) fn keyed_at(s: &[u8], o: usize, end: usize) -> Result<Keyed, Fault>
+    requires { end ≤ length s.now }
+    ensures { KeyedFits end result }
 {
-    let at = k.key_at;
-    let end = at + k.key_len;
-    &s[at..end]
+    let len = len_at(s, end, o)?;
+    if len.is < 8 {
+        return Err(Fault { at: o });
+    }
+    if len.is > MAX_KEY + 8 {
+        return Err(Fault { at: o });
+    }
+    let rest = len.after + len.is;
+    if rest > end {
+        return Err(Fault { at: o });
+    }
+    let key_len = len.is - 8;
+    Ok(Keyed {
+        key_at: len.after,
+        key_len,
+        tag: get_tag(s, len.after + key_len),
+        rest,
+    })
 }
 
-// Whether one entry comes before another in the order; their keys are compared where they stand.
-pub(crate) fn entry_less(s: &[u8], a: Keyed, b: Keyed) -> bool
-    requires { KeyInside (length s.now) a × KeyInside (length s.now) b }
-{
-    let a_tag = a.tag;
-    let b_tag = b.tag;
-    let order = compare_entries(
-        key_in(s, a),
-        a_tag.number().is,
-        key_in(s, b),
-        b_tag.number().is,
-    );
-    order.is_less()
-}
-
-// Where the parts of an entry stand.
-#[derive(Drop)]
+// Where the parts of an entry stand, and its type.
+#[derive(Clone, Copy)]
 pub(crate) struct Parts {
     pub keyed: Keyed,
+    pub kind: Kind,
     pub value_at: usize,
     pub value_len: usize,
 }
 
-// The parts of an entry, or the place of the byte at fault.
-#[derive(Drop)]
-pub(crate) enum PartsRead {
-    Got(Parts),
-    Bad(usize),
-}
-
 // The type and the value of an entry that fills the bytes up to end, after its key and tag were read.
-pub(crate) fn rest_at(s: &[u8], end: usize, k: Keyed) -> PartsRead
-    requires { (end ≤ length s.now) × KeyInside end k }
+pub(crate) fn rest_at(s: &[u8], end: usize, keyed: Keyed) -> Result<Parts, Fault>
+    requires { (end ≤ length s.now) × KeyInside end keyed }
     ensures { PartsFit end result }
 {
-    let tag = k.tag;
-    if !Tag::known(tag.kind()) {
-        return PartsRead::Bad(k.key_at + k.key_len);
+    let Ok(kind) = keyed.tag.kind() else {
+        return Err(Fault {
+            at: keyed.key_at + keyed.key_len,
+        });
+    };
+    let fault = Fault { at: keyed.rest };
+    let len = len_at(s, end, keyed.rest)?;
+    if len.is > MAX_VALUE {
+        return Err(fault);
     }
-    let rest = k.rest;
-    let len = len_at(s, end, rest);
-    match len {
-        LenRead::Bad(fault) => PartsRead::Bad(fault),
-        LenRead::Got { is, after } => {
-            if is > MAX_VALUE {
-                return PartsRead::Bad(rest);
-            }
-            let stop = after + is;
-            if stop > end {
-                return PartsRead::Bad(rest);
-            }
-            if stop < end {
-                return PartsRead::Bad(stop);
-            }
-            PartsRead::Got(Parts {
-                keyed: k,
-                value_at: after,
-                value_len: is,
-            })
-        }
+    let stop = len.after + len.is;
+    if stop > end {
+        return Err(fault);
     }
+    if stop < end {
+        return Err(Fault { at: stop });
+    }
+    Ok(Parts {
+        keyed,
+        kind,
+        value_at: len.after,
+        value_len: len.is,
+    })
 }

@@ -1,26 +1,27 @@
 // Made by tools/moving from crates/table/src/insert.rt: its bodies, other contracts.
 // Writing to an image: a fresh header, a node in the free part, links. What is written is decided before the first byte is.
 ghost use Rattle.std.specs.Prelude.{◌≡◌, ◌+◌, ◌*◌, ◌≤◌, length};
+ghost use Rattle.moving.specs.Within.{Within};
+ghost use Rattle.moving.specs.Entries.{entry_size};
 ghost use Rattle.moving.specs.Search.{PlacesInside};
-ghost use Rattle.moving.specs.Insert.{NodeWritable, Sized, RoomIs, Placeable};
+ghost use Rattle.moving.specs.Insert.{RoomIs, Placeable};
 
-use crate::entries::{entry_size, put_entry};
 use crate::nodes::{
-    COUNT_AT, FREE_AT, Frame, HEAD_LINKS, HEADER_SIZE, LENGTH_AT, LEVELS, LEVELS_AT, LINKS_AT,
-    MAX_NODES,
+    COUNT_AT, FREE_AT, HEAD_LINKS, HEADER_SIZE, LENGTH_AT, LEVELS, LEVELS_AT, LINKS_AT, MAX_NODES,
 };
-use crate::skipmap::{OnEqual, Spot, search};
-use crate::words::{get_word, put_word};
+use crate::refusals::Refusal;
+use crate::skipmap::{OnEqual, Spot};
+use crate::tested::{Entry, Frame, Table};
+use crate::words::{get_wide, put_word};
 
-// Writes the links of a node, or of the head, at the levels below the height, to a place and behind it.
-pub(crate) fn put_links(s: &mut [u8], at: usize, links: &[usize; 12], height: usize)
-    requires { (height ≤ 12) × (at + 4 * height ≤ length s.old) }
+// Writes the links of a node, or of the head, one for each level from the lowest up, to a place and behind it. The level says the place,
+// so the loop runs over levels, here and in the two loops below.
+pub(crate) fn put_links(s: &mut [u8], at: usize, links: &[usize])
+    requires { (length links.now ≤ 12) × (at + 4 * length links.now ≤ length s.old) }
     ensures { length s.new ≡ length s.old }
 {
-    let mut l = 0;
-    while l < height {
+    for l in 0..links.len() {
         put_word(s, at + 4 * l, links[l]);
-        l += 1;
     }
 }
 
@@ -34,139 +35,90 @@ pub(crate) fn fresh_header(s: &mut [u8])
     put_word(s, COUNT_AT, 0);
     put_word(s, FREE_AT, HEADER_SIZE);
     put_word(s, LEVELS_AT, LEVELS);
-    let links = [0usize; 12];
-    put_links(s, HEAD_LINKS, &links, LEVELS);
+    put_links(s, HEAD_LINKS, &[0; LEVELS]);
 }
 
-// Lets the link at each place, at the levels below the height, lead to a node.
-pub(crate) fn lead_to(s: &mut [u8], places: &[usize; 12], node: usize, height: usize)
-    requires { (height ≤ 12) × PlacesInside (length s.old) height places.now }
+// Lets the link at each place lead to a node. With put_links it shares a loop of one line; one function for both would take a closure
+// for the place and one for the word.
+pub(crate) fn lead_to(s: &mut [u8], places: &[usize], node: usize)
+    requires { PlacesInside (length s.old) places.now }
     ensures { length s.new ≡ length s.old }
 {
-    let mut l = 0;
-    while l < height {
+    for l in 0..places.len() {
         put_word(s, places[l], node);
-        l += 1;
     }
 }
 
-// Writes a node to the front of the free part: height, length of its entry, links, entry.
-pub(crate) fn put_node(
-    free: &mut [u8],
-    height: usize,
-    links: &[usize; 12],
-    key: &[u8],
-    number: u64,
-    kind: u8,
-    value: &[u8],
-)
-    requires { NodeWritable (length free.old) height (length key.now) (length value.now) }
+// Writes a node to the front of the free part: its height, which is how many links it has, length of its entry, links, entry.
+pub(crate) fn put_node(free: &mut [u8], links: &[usize], entry: Entry<'_>)
+    requires { (length links.now ≤ 12) × (8 + 4 * length links.now + entry_size (length entry.key.now) (length entry.value.now) ≤ length free.old) }
     ensures { length free.new ≡ length free.old }
 {
-    let size = entry_size(key.len(), value.len());
-    put_word(free, 0, height);
-    put_word(free, 4, size);
-    put_links(free, LINKS_AT, links, height);
-    put_entry(free, LINKS_AT + 4 * height, key, number, kind, value);
+    put_word(free, 0, links.len());
+    put_word(free, 4, entry.size());
+    put_links(free, LINKS_AT, links);
+    entry.put(free, LINKS_AT + 4 * links.len());
 }
 
-// What the links at these places hold, at each level below the height.
-pub(crate) fn read_links(s: &[u8], places: [usize; 12], height: usize) -> [usize; 12]
-    requires { (height ≤ 12) × PlacesInside (length s.now) 12 places }
+// What the links at these places hold, at the front of the answer.
+pub(crate) fn read_links(s: &[u8], places: &[usize]) -> [usize; 12]
+    requires { (length places.now ≤ 12) × PlacesInside (length s.now) places.now }
 {
     let mut links = [0usize; 12];
-    let mut l = 0;
-    while l < height {
-        let place = places[l];
-        links[l] = get_word(s, place);
-        l += 1;
+    for l in 0..places.len() {
+        links[l] = get_wide(s, places[l]);
     }
     links
 }
 
 // Puts an entry in where a search ended: the first free byte, the node there, its slot, the links to it from the lowest up, and the
-// count last, which is what makes it a node of the table. Answers the node's number.
-pub(crate) fn put_in(
-    s: &mut [u8],
-    f: Frame,
-    places: [usize; 12],
-    key: &[u8],
-    number: u64,
-    kind: u8,
-    value: &[u8],
-    height: usize,
-) -> usize
-    requires { Placeable (length s.old) f places (length key.now) (length value.now) height }
+// count last, which is what makes it a node of the table. Its height is how many places there are. Answers the node's number.
+pub(crate) fn put_in(s: &mut [u8], frame: Frame, places: &[usize], entry: Entry<'_>) -> usize
+    requires { Placeable (length s.old) frame places.now (length entry.key.now) (length entry.value.now) }
     ensures { length s.new ≡ length s.old }
 {
-    let links = read_links(s, places, height);
-    let used = f.free;
-    let node = f.count + 1;
-    let end = used + LINKS_AT + 4 * height + entry_size(key.len(), value.len());
+    let links = read_links(s, places);
+    let used = frame.free;
+    let node = frame.count + 1;
+    let end = used + LINKS_AT + 4 * places.len() + entry.size();
     let len = s.len();
     put_word(s, FREE_AT, end);
-    put_node(&mut s[used..], height, &links, key, number, kind, value);
+    put_node(&mut s[used..], &links[..places.len()], entry);
     put_word(s, len - 4 * node, used);
-    lead_to(s, &places, node, height);
+    lead_to(s, places, node);
     put_word(s, COUNT_AT, node);
     node
 }
 
-// Whether one more node of this height fits an image of this length, whose key and value have these lengths.
-pub(crate) fn has_room(
-    len: usize,
-    f: Frame,
-    key_len: usize,
-    value_len: usize,
-    height: usize,
-) -> bool
-    requires { Sized len f key_len value_len height }
-    ensures { RoomIs len f key_len value_len height result }
+// Whether one more node of this height with this entry fits an image of this length.
+pub(crate) fn has_room(len: usize, frame: Frame, entry: Entry<'_>, height: usize) -> bool
+    requires { Within len frame × (height ≤ 12) }
+    ensures { RoomIs len frame (length entry.entry.key.now) (length entry.entry.value.now) height result }
 {
-    if f.count >= MAX_NODES {
+    if frame.count >= MAX_NODES {
         return false;
     }
-    let need = 12 + 4 * height + entry_size(key_len, value_len);
-    need <= len - 4 * f.count - f.free
+    let need = 12 + 4 * height + entry.size();
+    need <= len - 4 * frame.count - frame.free
 }
 
-// What an insertion answers: the new node's number, or why nothing was written.
-#[derive(Drop)]
-pub(crate) enum Inserted {
-    At(usize),
-    Duplicate,
-    Full,
-    Damaged,
-}
-
-// Looks for the entry's key and number, and where they are not there puts the entry in. An equal entry is a duplicate, room or not.
+// Looks for the entry's key and number, and where they are not there puts the entry in; answers the new node's number. An equal
+// entry is a duplicate, room or not. Refusals 9, 8, 7.
 pub(crate) fn insert(
     s: &mut [u8],
-    f: Frame,
-    key: &[u8],
-    number: u64,
-    kind: u8,
-    value: &[u8],
+    frame: Frame,
+    entry: Entry<'_>,
     height: usize,
-) -> Inserted
-    requires { Sized (length s.old) f (length key.now) (length value.now) height }
+) -> Result<usize, Refusal>
+    requires { Within (length s.old) frame × (height ≤ 12) }
     ensures { length s.new ≡ length s.old }
 {
-    let found = search(s, f, OnEqual::Stop, key, number);
-    let spot = found.spot;
-    match spot {
-        Spot::Bad(_) => Inserted::Damaged,
-        Spot::Hit { node: _, looks: _ } => Inserted::Duplicate,
-        Spot::Ends {
-            before: _,
-            after: _,
-            looks: _,
-        } => {
-            if !has_room(s.len(), f, key.len(), value.len(), height) {
-                return Inserted::Full;
-            }
-            let places = found.places;
-            Inserted::At(put_in(s, f, places, key, number, kind, value, height))
-        }
+    let found = Table { bytes: s, frame }.search(OnEqual::Stop, entry.lookup_key())?;
+    if let Spot::Hit(_) = found.spot {
+        return Err(Refusal::Duplicate);
     }
+    if !has_room(s.len(), frame, entry, height) {
+        return Err(Refusal::NoRoom);
+    }
+    Ok(put_in(s, frame, &found.places[..height], entry))
 }

@@ -1,9 +1,13 @@
 // Made by tools/moving from crates/table/src/key_types.rt: its bodies, other contracts.
-// Number, tag, lengths and order.
+// Number, type, tag, lengths and order.
 ghost use Rattle.std.specs.Prelude.{◌≡◌, ◌+◌, ◌<◌, ◌≤◌, length};
 ghost use Rattle.moving.specs.Entries.{len_size, LenFits};
+ghost use Rattle.moving.specs.Search.{ProbeFits};
 
-use crate::words::{get_u64, put_word, wide};
+use crate::entries::MAX_KEY;
+use crate::refusals::{Fault, Refusal};
+use crate::words::{get_u64, put_bytes};
+use std::cmp::Ordering;
 
 // The number of an entry, or of a snapshot.
 #[derive(Clone, Copy)]
@@ -20,6 +24,36 @@ impl Number {
     }
 }
 
+impl TryFrom<u64> for Number {
+    type Error = Refusal;
+
+    fn try_from(n: u64) -> Result<Number, Refusal> {
+        if !Number::fits(n) {
+            return Err(Refusal::BadNumber);
+        }
+        Ok(Number { is: n })
+    }
+}
+
+// The type of an entry.
+#[derive(Clone, Copy, Debug, PartialEq, Eq)]
+pub enum Kind {
+    Deletion,
+    Value,
+}
+
+impl TryFrom<u8> for Kind {
+    type Error = Refusal;
+
+    fn try_from(code: u8) -> Result<Kind, Refusal> {
+        match code {
+            Tag::DELETION => Ok(Kind::Deletion),
+            Tag::VALUE => Ok(Kind::Value),
+            _ => Err(Refusal::BadKind),
+        }
+    }
+}
+
 // A number with the type of its entry: the number shifted left by eight bits, the type in the low byte.
 #[derive(Clone, Copy)]
 pub struct Tag {
@@ -27,19 +61,23 @@ pub struct Tag {
 }
 
 impl Tag {
+    // The codes of the two types, as the image and C's calls have them.
     pub const DELETION: u8 = 0;
 
     pub const VALUE: u8 = 1;
 
-    // Whether a type is one of the two.
-    pub(crate) fn known(kind: u8) -> bool {
-        kind <= Tag::VALUE
+    // The code of a type.
+    pub fn code(kind: Kind) -> u8 {
+        match kind {
+            Kind::Deletion => Tag::DELETION,
+            Kind::Value => Tag::VALUE,
+        }
     }
 
     // A number and a type in one word.
-    pub(crate) fn pack(number: Number, kind: u8) -> Tag {
+    pub(crate) fn pack(number: Number, kind: Kind) -> Tag {
         Tag {
-            word: (number.is << 8) | (kind as u64),
+            word: (number.is << 8) | u64::from(Tag::code(kind)),
         }
     }
 
@@ -48,9 +86,9 @@ impl Tag {
         Number { is: self.word >> 8 }
     }
 
-    // The type of a tag.
-    pub(crate) fn kind(self) -> u8 {
-        (self.word & 0xff) as u8
+    // The type of a tag, which may be none of the two.
+    pub(crate) fn kind(self) -> Result<Kind, Refusal> {
+        Kind::try_from((self.word & 0xff) as u8)
     }
 }
 
@@ -68,9 +106,7 @@ pub(crate) fn put_tag(s: &mut [u8], at: usize, t: Tag)
     requires { at + 8 ≤ length s.old }
     ensures { length s.new ≡ length s.old }
 {
-    let word = t.word as usize;
-    put_word(s, at, word);
-    put_word(s, at + 4, word / 4294967296);
+    put_bytes(s, at, &t.word.to_le_bytes());
 }
 
 // How many bytes a length takes.
@@ -80,7 +116,7 @@ pub(crate) fn len_size(len: usize) -> usize
     if len < 128 { 1 } else { 2 }
 }
 
-// Writes a length in its shortest form; answers the place behind it.
+// Writes a length in its shortest form; answers the place behind it. The library has no base-128 numbers.
 pub(crate) fn put_len(s: &mut [u8], at: usize, n: usize) -> usize
     requires { (n < 16384) × (at + len_size n ≤ length s.old) }
     ensures { (length s.new ≡ length s.old) × (result ≡ at + len_size n) }
@@ -94,129 +130,97 @@ pub(crate) fn put_len(s: &mut [u8], at: usize, n: usize) -> usize
     at + 2
 }
 
-// A length with the place behind it, or the place of the byte at fault.
-#[derive(Drop)]
-pub(crate) enum LenRead {
-    Got { is: usize, after: usize },
-    Bad(usize),
+// A length with the place behind it.
+#[derive(Clone, Copy)]
+pub(crate) struct Len {
+    pub is: usize,
+    pub after: usize,
 }
 
-// The length that stands at o, before the place end.
-pub(crate) fn len_at(s: &[u8], end: usize, o: usize) -> LenRead
+// The length that stands at o, before the place end; the library reads no such numbers.
+pub(crate) fn len_at(s: &[u8], end: usize, o: usize) -> Result<Len, Fault>
     requires { end ≤ length s.now }
     ensures { LenFits end result }
 {
+    let fault = Fault { at: o };
     if o >= end {
-        return LenRead::Bad(o);
+        return Err(fault);
     }
-    let low = wide(s[o]);
+    let low = usize::from(s[o]);
     let next = o + 1;
     if low < 128 {
-        return LenRead::Got {
+        return Ok(Len {
             is: low,
             after: next,
-        };
+        });
     }
     if next >= end {
-        return LenRead::Bad(o);
+        return Err(fault);
     }
-    let high = wide(s[next]);
+    let high = usize::from(s[next]);
     if high < 1 {
-        return LenRead::Bad(o);
+        return Err(fault);
     }
     if high >= 128 {
-        return LenRead::Bad(o);
+        return Err(fault);
     }
-    LenRead::Got {
+    Ok(Len {
         is: low - 128 + 128 * high,
         after: o + 2,
-    }
-}
-
-// What a comparison answers of its first side.
-#[derive(Drop)]
-pub(crate) enum Ordering {
-    Less,
-    Equal,
-    Greater,
-}
-
-impl Ordering {
-    // Whether the first side is less.
-    pub(crate) fn is_less(self) -> bool {
-        match self {
-            Ordering::Less => true,
-            Ordering::Equal => false,
-            Ordering::Greater => false,
-        }
-    }
-
-    // Whether the two are equal.
-    pub(crate) fn is_equal(self) -> bool {
-        match self {
-            Ordering::Less => false,
-            Ordering::Equal => true,
-            Ordering::Greater => false,
-        }
-    }
+    })
 }
 
 // How many bytes two keys have in common at their front, in steps of eight: eight bytes are one number of the machine.
 fn common_front(a: &[u8], b: &[u8]) -> usize
     ensures { (result ≤ length a.now) × (result ≤ length b.now) }
 {
-    let mut i = 0;
-    while a.len() - i >= 8 {
-        if b.len() - i < 8 {
-            return i;
-        }
-        let x = get_u64(a, i);
-        let y = get_u64(b, i);
+    let steps = a.len().min(b.len()) / 8;
+    for i in 0..steps {
+        let x = get_u64(a, 8 * i);
+        let y = get_u64(b, 8 * i);
         if x != y {
-            return i;
+            return 8 * i;
         }
-        i += 8;
     }
-    i
+    8 * steps
 }
 
-// Two keys by their bytes; a proper prefix comes first.
+// Two keys by their bytes; a proper prefix comes first. The order of slices in the library may read a byte more than once,
+// which bytes that change meanwhile do not bear (crates/moving).
 pub(crate) fn compare_keys(a: &[u8], b: &[u8]) -> Ordering {
-    let mut i = common_front(a, b);
-    while i < a.len() {
-        if i >= b.len() {
-            return Ordering::Greater;
-        }
+    let front = common_front(a, b);
+    let both = a.len().min(b.len());
+    for i in front..both {
         let x = a[i];
         let y = b[i];
-        if x < y {
-            return Ordering::Less;
+        if x != y {
+            return x.cmp(&y);
         }
-        if y < x {
-            return Ordering::Greater;
-        }
-        i += 1;
     }
-    if i >= b.len() {
-        return Ordering::Equal;
-    }
-    Ordering::Less
+    a.len().cmp(&b.len())
 }
 
-// The key a with the number m beside b with n: keys ascending, numbers of equal keys descending.
-pub(crate) fn compare_entries(a: &[u8], m: u64, b: &[u8], n: u64) -> Ordering {
-    let keys = compare_keys(a, b);
-    match keys {
-        Ordering::Less => Ordering::Less,
-        Ordering::Greater => Ordering::Greater,
-        Ordering::Equal => {
-            if n < m {
-                return Ordering::Less;
-            }
-            if m < n {
-                return Ordering::Greater;
-            }
-            Ordering::Equal
+// A key with a number: what a search looks for, and what the order of entries goes by.
+#[derive(Clone, Copy)]
+pub struct LookupKey<'a> {
+    pub key: &'a [u8],
+    pub number: Number,
+}
+
+impl<'a> LookupKey<'a> {
+    // What a call is to look for, within the limits. Refusals 3, 4.
+    pub fn of(key: &'a [u8], number: u64) -> Result<LookupKey<'a>, Refusal>
+        ensures { ProbeFits (length key.now) result }
+    {
+        let number = Number::try_from(number)?;
+        if key.len() > MAX_KEY {
+            return Err(Refusal::LongKey);
         }
+        Ok(LookupKey { key, number })
+    }
+
+    // Keys ascending, numbers of equal keys descending. A derived order would take a number turned round in the field.
+    pub(crate) fn compare(self, other: LookupKey<'a>) -> Ordering {
+        compare_keys(self.key, other.key).then(other.number.is.cmp(&self.number.is))
     }
 }

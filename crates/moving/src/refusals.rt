@@ -1,6 +1,9 @@
 // Made by tools/moving from crates/table/src/refusals.rt: its bodies, other contracts.
-// Why a call is refused.
-#[derive(Clone, Copy)]
+// Why a call is refused, and where a byte is at fault.
+use std::error::Error;
+use std::fmt;
+
+#[derive(Clone, Copy, Debug, PartialEq, Eq)]
 pub enum Refusal {
     // Slice length or header field out of its limits.
     BadImage,
@@ -27,17 +30,48 @@ pub enum Refusal {
 impl Refusal {
     // The number of a refusal, 1 to 10.
     pub fn number(self) -> u32 {
-        match self {
-            Refusal::BadImage => 1,
-            Refusal::BadKind => 2,
-            Refusal::BadNumber => 3,
-            Refusal::LongKey => 4,
-            Refusal::LongValue => 5,
-            Refusal::BadHeight => 6,
-            Refusal::NoRoom => 7,
-            Refusal::Duplicate => 8,
-            Refusal::Damaged => 9,
-            Refusal::NoNode => 10,
-        }
+        self as u32 + 1
+    }
+}
+
+impl fmt::Display for Refusal {
+    fn fmt<W: fmt::Write>(&self, f: &mut fmt::Formatter<W>) -> fmt::Result {
+        f.write_str(match self {
+            Refusal::BadImage => "no image",
+            Refusal::BadKind => "type above 1",
+            Refusal::BadNumber => "number above the limit",
+            Refusal::LongKey => "key too long",
+            Refusal::LongValue => "value too long",
+            Refusal::BadHeight => "height not 1 to 12",
+            Refusal::NoRoom => "no room",
+            Refusal::Duplicate => "key and number are there",
+            Refusal::Damaged => "damage was met",
+            Refusal::NoNode => "no node of the table",
+        })
+    }
+}
+
+impl Error for Refusal {}
+
+// Damage was met, and nothing else can refuse the question.
+#[derive(Clone, Copy, Debug, PartialEq, Eq)]
+pub struct Damage;
+
+impl From<Damage> for Refusal {
+    fn from(_damage: Damage) -> Refusal {
+        Refusal::Damaged
+    }
+}
+
+// The place of a byte at fault.
+#[derive(Clone, Copy)]
+pub(crate) struct Fault {
+    pub at: usize,
+}
+
+// A call that meets a byte at fault is refused for damage.
+impl From<Fault> for Refusal {
+    fn from(_fault: Fault) -> Refusal {
+        Refusal::Damaged
     }
 }

@@ -1,33 +1,28 @@
--- Entries as code writes and reads them: each way out of the code.
-use Prim.Native.Nat.{ℕ, ◌+◌, ◌-◌, ◌%◌, ◌<◌, ◌≤◌}
-use native.Mathlib.Omega.{arith}
-use mathlib.Core.Path.{◌≡◌, sym, ap, ◌∙◌}
-use mathlib.Core.List.{List, ◌++◌}
-use mathlib.Core.Bool.{Bool, true, false, not}
-use lib.ListN.{length}
-use lib.Seq.{sets}
-use lib.Dec.{leb}
-use borrow.Author.Tests.{lt-ltb, le-ltb, le-leb, lt-leb, leb-true, leb-false, eq-eqb, ne_eqb, not-true, not-false}
-use Rattle.rule.specs.Order.{Ord, compare_entries, is_less}
+-- Entries as code writes and reads them.
+use Rattle.std.proofs.Common.{ℕ, ◌+◌, ◌-◌, ◌%◌, ◌<◌, ◌≤◌, ◌≡◌, ◌∙◌, arith, List, ◌++◌, length}
+use Rattle.std.proofs.Common.{lt-ltb, le-ltb, le-leb, eq-eqb, ne_eqb}
+use Rattle.std.proofs.lemmas.Bool.{lt-leb}
+use Rattle.std.proofs.lemmas.List.Edits.{sets}
 use Rattle.rule.specs.Entries.{Entry}
 use Rattle.image.specs.Limits.{max_key, max_value}
 use Rattle.image.specs.Words.{fixed, bytes}
 use Rattle.image.specs.Readers.{got, bad}
-use Rattle.image.specs.Entries.{varint, tag, encode, len_at, Keyed, keyed_at, rest_at, key_in, number_in, compare_keyed}
+use Rattle.image.specs.Entries.{varint, tag, encode, len_at, Keyed, keyed_at, rest_at}
 use Rattle.image.proofs.Words.{sets_append}
 use Rattle.image.proofs.Entries.{length_encode}
-use Rattle.table.specs.Entries.{EntrySize, Writable}
+use Rattle.table.specs.KeyTypes.{code_of}
+use Rattle.table.specs.declared.key_types.Kind.{Kind}
+use Rattle.table.specs.declared.key_types.Kind.TheVariants.{Deletion, Value}
 
 -- ---- written
 
 -- the length of an entry is that of its five parts
-pub entry_sized : {k v a b : ℕ} → (a ≡ length (varint (k + 8))) × (a ≤ 2) → (b ≡ length (varint v)) × (b ≤ 2) → EntrySize k v (a + k + 8 + b + v)
-entry_sized {k} {v} {a} {b} (p, p2) (q, q2) = record { is = λ e f g. rw (p, q, ← f, ← g) (omega (arith, length_encode 0 e)); most = omega arith }
+pub entry_sized : (e : Entry) {a b : ℕ} → a ≡ length (varint (length e.key + 8)) → b ≡ length (varint (length e.value)) → a + length e.key + 8 + b + length e.value ≡ length (encode e)
+entry_sized e p q = omega (arith, length_encode 0 e)
 
 -- the parts have room where the entry has
-pub room : {xs : List ℕ} {at : ℕ} {e : Entry} → Writable xs at e
-    → at + length (varint (length e.key + 8)) + length e.key + 8 + length (varint (length e.value)) + length e.value ≤ length xs
-room {xs} {at} {e} w = omega (arith, length_encode at e, w.room)
+pub room : (at : ℕ) (e : Entry) {n : ℕ} → at + length (encode e) ≤ n → at + length (varint (length e.key + 8)) + length e.key + 8 + length (varint (length e.value)) + length e.value ≤ n
+room at e h = omega (arith, length_encode at e)
 
 -- the five parts, each behind the one before
 module _ (xs : List ℕ) (at : ℕ) (e : Entry) where
@@ -56,7 +51,7 @@ module _ (xs : List ℕ) (at : ℕ) (e : Entry) where
           ∙ sets_append (sets xs at k) kt e.key (bytes 8 (tag e) ++ (v ++ e.value))
           ∙ sets_append xs at k (e.key ++ (bytes 8 (tag e) ++ (v ++ e.value)))
 
--- ---- read
+-- ---- read: each way out of the code
 
 module _ (xs : List ℕ) (o end : ℕ) where
   pub keyed_bad : {p : ℕ} → bad p ≡ len_at xs end o → bad p ≡ keyed_at xs o end
@@ -82,13 +77,10 @@ module _ (xs : List ℕ) (o end : ℕ) where
         unfolding keyed_at
         keyed_whole h {t} e = rw (← first, le-leb 8 n some, le-leb n (max_key + 8) most, le-leb (a + n) end h, ← e)
 
--- a type that code tested
-module _ {b : Bool} {t m : ℕ} (tested : b ≡ leb t 1) (is : t ≡ m) where
-  pub kind_unknown : not b ≡ true → 2 ≤ m
-  kind_unknown h = omega (arith, is, leb-false t 1 (sym tested ∙ not-true b h))
-
-  pub kind_known : not b ≡ false → m < 2
-  kind_known h = omega (arith, is, leb-true t 1 (sym tested ∙ not-false b h))
+-- a type has one of the two codes
+pub kind_known : (kind : Kind) {m : ℕ} → code_of kind ≡ m → m < 2
+kind_known Deletion e = omega arith
+kind_known Value e = omega arith
 
 module _ (xs : List ℕ) (end : ℕ) (k : Keyed) where
   pub rest_kind : 2 ≤ k.tag_is % 256 → bad (k.key_at + k.key_len) ≡ rest_at xs end k
@@ -118,10 +110,3 @@ module _ (xs : List ℕ) (end : ℕ) (k : Keyed) where
           pub rest_whole : end ≤ a + n → got (record { keyed = k; value_at = a; value_len = n }) ≡ rest_at xs end k
           unfolding rest_at
           rest_whole h = rw (lt-ltb (k.tag_is % 256) 2 known, ← second, le-leb n max_value most, le-leb (a + n) end inside, eq-eqb (a + n) end (omega arith))
-
--- ---- compared
-
--- two entries by their keys and numbers, where they stand
-pub less_by : (xs : List ℕ) (k l : Keyed) {a b : List ℕ} {m n : ℕ} → a ≡ key_in xs k → m ≡ number_in k → b ≡ key_in xs l → n ≡ number_in l → {o : Ord}
-    → o ≡ compare_entries a m b n → is_less o ≡ is_less (compare_keyed xs k l)
-less_by xs k l ka km lb ln e = ap is_less e ∙ rw (ka, km, lb, ln)

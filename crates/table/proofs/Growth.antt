@@ -4,8 +4,10 @@ use native.Mathlib.Omega.{arith}
 use mathlib.Core.Path.{◌≡◌, refl, sym, ap, ◌∙◌}
 use mathlib.Core.List.{List, [], ◌∷◌, ◌++◌, append_assoc, append-nil}
 use lib.ListN.{length}
+use Rattle.std.specs.Prelude.{Ok}
 use lib.Dec.{leb}
 use borrow.Author.Tests.{leb-true}
+use Rattle.std.specs.Prelude.{Ok}
 use Rattle.rule.specs.Lists.{both}
 use Rattle.rule.specs.Entries.{Entry}
 use Rattle.rule.proofs.Lists.{both_true}
@@ -19,13 +21,11 @@ use Rattle.image.proofs.Refusals.{demand_given}
 use Rattle.image.proofs.Add.{add_added}
 use Rattle.table.specs.Memtable.{Freshens, Adds}
 use Rattle.table.specs.Growth.{Begun, Additions, none, more, Filled, Grows}
-use Rattle.table.specs.declared.memtable.Freshened.TheVariants as freshened
-use Rattle.table.specs.declared.memtable.Added.TheVariants as added
 
 -- ---- one addition, none, and one after the other
 
 -- an accepted addition keeps every node, and the table sound
-pub add_keeps : (xs : List ℕ) → Sound xs → (e : Entry) (h i : ℕ) (ys : List ℕ) → Adds xs e h (added.Node i) ys → Grows xs ys
+pub add_keeps : (xs : List ℕ) → Sound xs → (e : Entry) (h i : ℕ) (ys : List ℕ) → Adds xs e h (Ok i) ys → Grows xs ys
 add_keeps xs s e h i ys a = let (_, g) = add_added xs s e h (record { node = i; image = ys }) (sym a.exact) in record {
   sound = g.sound;
   node_kept = λ j n. record { some = n.some; most = omega (arith, g.one_more, n.most) };
@@ -33,7 +33,7 @@ add_keeps xs s e h i ys a = let (_, g) = add_added xs s e h (record { node = i; 
 }
 
 -- the new node has the entry
-pub add_node : (xs : List ℕ) → Sound xs → (e : Entry) (h i : ℕ) (ys : List ℕ) → Adds xs e h (added.Node i) ys → IsNode ys i × (entry_of ys i ≡ e)
+pub add_node : (xs : List ℕ) → Sound xs → (e : Entry) (h i : ℕ) (ys : List ℕ) → Adds xs e h (Ok i) ys → IsNode ys i × (entry_of ys i ≡ e)
 add_node xs s e h i ys a = let (n, g) = add_added xs s e h (record { node = i; image = ys }) (sym a.exact) in
     (record { some = omega (arith, n); most = omega (arith, n, g.one_more) }, ap (entry_of ys) n ∙ g.entry_new)
 
@@ -47,7 +47,7 @@ grows_on xs ys zs a b = record { sound = b.sound; node_kept = λ j n. b.node_kep
 -- ---- from the beginning
 
 -- a table that was begun had a legal length
-begun_legal : (xs ys : List ℕ) → Freshens xs freshened.Done ys → (header_size ≤ length xs) × (length xs ≤ max_image)
+begun_legal : (xs ys : List ℕ) → Freshens xs (Ok tt) ys → (header_size ≤ length xs) × (length xs ≤ max_image)
 unfolding fresh
 begun_legal xs ys f =
     let (t, _) = demand_given (both (leb header_size (length xs)) (leb (length xs) max_image)) bad_image (given (fresh_image xs)) ys (sym f.exact) in

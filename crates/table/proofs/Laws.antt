@@ -9,10 +9,10 @@ use mathlib.Core.Bool.{true}
 use lib.ListN.{length, length-append}
 use lib.Dec.{leb}
 use borrow.Author.Tests.{leb-true}
-use Rattle.rule.specs.Lists.{Maybe, none, some, Pairwise}
+use Rattle.rule.specs.Lists.{some, Pairwise}
 use Rattle.rule.specs.Order.{less, is_less}
 use Rattle.rule.specs.Entries.{Entry, order}
-use Rattle.rule.specs.Moves.{first, seek, next, previous, target, best}
+use Rattle.rule.specs.Moves.{next, previous, target, best}
 use Rattle.rule.proofs.Lists.{both_true}
 use Rattle.rule.proofs.Order.{entries_less_number}
 use Rattle.image.specs.Limits.{levels, max_nodes}
@@ -24,11 +24,10 @@ use Rattle.image.specs.EntryMoves.{on, in_table, number_view}
 use Rattle.image.specs.Meaning.{IsNode}
 use Rattle.image.specs.Cuts.{Cut, all, from, above, below, cmp_of, admits, past_of}
 use Rattle.image.proofs.Lookup.{get_given}
-use Rattle.image.proofs.Sound.{header_complete, everywhere}
+use Rattle.image.proofs.Sound.{everywhere}
 use Rattle.image.proofs.Held.{held_has}
 use Rattle.image.proofs.Views.{number_shown}
 use Rattle.table.specs.EntryViews.{shown_number}
-use Rattle.table.specs.Questions.{nodes_of}
 
 -- ---- the nodes of a table
 
@@ -47,10 +46,6 @@ held_length xs = go (count xs)
     go : (n : ℕ) → length (held_up_to xs n) ≡ n
     go zero = refl
     go (suc n) = length-append (held_up_to xs n) (entry_of xs (suc n) ∷ []) ∙ (let e = go n in omega (arith, e))
-
--- and that many are told of a sound image
-pub nodes_sound : (xs : List ℕ) → Sound xs → nodes_of xs ≡ count xs
-nodes_sound xs s = rw (header_complete xs s.header)
 
 -- members of a list between whose members R holds
 between {ℓ κ} : {A : Type ℓ} (R : A → A → Type κ) (xs : List A) → Pairwise R xs → (x y : A) → Memᴰ x xs → Memᴰ y xs → (x ≡ y) ⊎ (R x y ⊎ R y x)
@@ -86,19 +81,10 @@ past_past from = refl
 past_past above = refl
 past_past below = refl
 
--- each move's target is the best behind a cut
+-- the target of a move from a key is the best behind a cut
 module _ (s : ℕ) (es : List Entry) where
-  pub first_behind : (t : List ℕ) (k : Maybe (List ℕ)) → target first s k es ≡ best (λ a b. is_less (cmp_of all a b)) (admits all t) s es
-  first_behind t k = refl
-
-  pub seek_behind : (t : List ℕ) (k : Maybe (List ℕ)) → target (seek t) s k es ≡ best (λ a b. is_less (cmp_of from a b)) (admits from t) s es
-  seek_behind t k = refl
-
   pub next_behind : (k : List ℕ) → target next s (some k) es ≡ best (λ a b. is_less (cmp_of above a b)) (admits above k) s es
   next_behind k = refl
-
-  pub next_nowhere : (t : List ℕ) → target next s none es ≡ best (λ a b. is_less (cmp_of all a b)) (admits all t) s es
-  next_nowhere t = refl
 
   pub previous_behind : (k : List ℕ) → target previous s (some k) es ≡ best (λ a b. is_less (cmp_of below a b)) (admits below k) s es
   previous_behind k = refl

@@ -12,6 +12,7 @@ pub mod MemtableIterLaws
 pub mod EntryViewsLaws
 pub mod PresenceLaws
 pub mod OneAnswer
+pub mod OneArgument
 pub mod Laws
 pub mod Growth
 pub mod Scans

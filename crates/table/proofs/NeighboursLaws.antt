@@ -3,132 +3,90 @@ use Prim.Native.Nat.{ℕ, ◌<◌, ◌≤◌}
 use native.Mathlib.Omega.{arith}
 use mathlib.Core.Path.{◌≡◌, refl, sym, ap, ◌∙◌}
 use mathlib.Core.List.{List}
-use mathlib.Core.Bool.{Bool, true, false, not, true≢false}
-use lib.Dec.{leb}
-use borrow.Author.Tests.{le-leb, lt-leb, not-true, not-false}
-use Rattle.image.specs.Readers.{Read, got, bad, bind, check}
+use mathlib.Core.Bool.{true, false}
+use borrow.Author.Tests.{le-leb, lt-leb}
+use Rattle.std.specs.Prelude.{Option, Some, None, Result, Ok, Err}
+use Rattle.image.specs.Readers.{Read, got, bad, bind}
 use Rattle.image.specs.Words.{word}
-use Rattle.image.specs.Nodes.{count, link_place, link_of}
-use Rattle.image.specs.Search.{OnEqual, to_go_down, Found, hit, ends, searched}
-use Rattle.image.specs.Refusals.{damaged, Answer, refused, given, demand, reading}
-use Rattle.image.specs.EntryMoves.{Cursor, cursor_at, landing, first_entry, first_not_passed, last_before}
+use Rattle.image.specs.Nodes.{count, link_of}
+use Rattle.image.specs.Search.{OnEqual, Found, searched}
+use Rattle.image.specs.Refusals as is
+use Rattle.image.specs.Refusals.{Answer, refused, given, demand, reading}
+use Rattle.image.specs.EntryMoves.{Cursor, cursor_at, landing, first_not_passed}
 use Rattle.image.proofs.Spots.{search_stopped, search_ended}
-use Rattle.table.specs.Nodes.{Framed, Numbered, InTable}
-use Rattle.table.specs.MemtableIter.{lands_on}
-use Rattle.table.specs.Skipmap.{spot_read, Searches}
-use Rattle.table.specs.Neighbours.{Beside, stood, left, stands_at, passed_at, first_at, Finds}
-use Rattle.table.specs.declared.nodes.Frame.{Frame}
+use Rattle.table.specs.Framed.{Framed}
+use Rattle.table.specs.Refusals.{answer_as}
+use Rattle.table.specs.Skipmap.{spot_is, Searches}
+use Rattle.table.specs.Neighbours.{Beside, beside_is, stood, stands_at, passed_at, first_at, NodeIn, Finds, Links}
+use Rattle.table.specs.Questions.{lands_on}
+use Rattle.table.specs.declared.tested.Frame.{Frame}
+use Rattle.table.specs.declared.refusals.Refusal.{Refusal}
+use Rattle.table.specs.declared.refusals.Refusal.TheVariants.{Damaged}
 use Rattle.table.specs.declared.skipmap.Searched.{Searched}
 use Rattle.table.specs.declared.skipmap.Spot.{Spot}
-use Rattle.table.specs.declared.skipmap.Spot.TheVariants as spot
-use Rattle.table.specs.declared.neighbours.Neighbour.TheVariants.{Node, Damaged}
+use Rattle.table.specs.declared.skipmap.Spot.TheVariants.{Hit, Ends}
+use Rattle.table.specs.declared.neighbours.Neighbour.{Neighbour}
 
 -- ---- where a search ended, by the spot that the code was told
 
-module _ {xs : List ℕ} {mode : OnEqual} {k : List ℕ} {s : ℕ} {r : Searched} (q : Searches xs mode k s r) where
-  pub told : (v : Spot) → r.spot ≡ v → spot_read v q.prev ≡ searched xs mode k s
-  told v e = ap (λ (t : Spot). spot_read t q.prev) (sym e) ∙ q.exact
+told : {xs : List ℕ} {mode : OnEqual} {k : List ℕ} {s : ℕ} {r : Searched} (q : Searches xs mode k s (Ok r)) {v : Spot}
+    → r.spot ≡ v → got (spot_is v r.looks q.prev) ≡ searched xs mode k s
+told {r = r} q e = ap (λ (t : Spot). got (spot_is t r.looks q.prev)) (sym e) ∙ q.exact
 
-  module _ {f : Frame} (framed : Framed xs f) where
-    hit_in : {x looks : ℕ} → r.spot ≡ spot.Hit x looks → InTable xs f x
-    hit_in {x} {looks} e = record { framed = framed; most = omega (arith, (search_stopped xs mode k s (told (spot.Hit x looks) e)).most, framed.count_is) }
-
-    after_in : {p x looks : ℕ} → r.spot ≡ spot.Ends p x looks → InTable xs f x
-    after_in {p} {x} {looks} e = record { framed = framed; most = omega (arith, (search_ended xs mode k s (told (spot.Ends p x looks) e)).after_most, framed.count_is) }
-
-    before_in : {p x looks : ℕ} → r.spot ≡ spot.Ends p x looks → InTable xs f p
-    before_in {p} {x} {looks} e = record { framed = framed; most = omega (arith, (search_ended xs mode k s (told (spot.Ends p x looks) e)).before_most, framed.count_is) }
+-- the node that a link names is one of so many, if the link is no greater
+node_in : {n x : ℕ} (at : Option ℕ) → x ≤ n → Links x at → NodeIn n at
+node_in None h l = tt
+node_in (Some i) h (e, some) = (some, omega arith)
 
 -- ---- each way out
 
-module _ {xs : List ℕ} {mode : OnEqual} {k : List ℕ} {n : ℕ} {r : Searched} (q : Searches xs mode k n r) {f : Frame} (framed : Framed xs f) where
-  pub stands_bad : {o : ℕ} → r.spot ≡ spot.Bad o → Finds xs f (stands_at xs mode k n) Damaged
-  stands_bad {o} e = record { exact = rw (← told q (spot.Bad o) e); inside = tt }
+module _ {xs : List ℕ} {mode : OnEqual} {k : List ℕ} {n : ℕ} {r : Searched} (q : Searches xs mode k n (Ok r)) where
+  pub stands_hit : {x : ℕ} → r.spot ≡ Hit x → Finds xs (stands_at xs mode k n) (Ok (record { node = Some x; equal = true; looks = r.looks }))
+  stands_hit e = let s = search_stopped xs mode k n (told q e) in record { exact = rw (← told q e); inside = (s.some, s.most) }
 
-  pub stands_hit : {x looks : ℕ} → r.spot ≡ spot.Hit x looks → Finds xs f (stands_at xs mode k n) (Node x true looks)
-  stands_hit {x} {looks} e = record { exact = rw (← told q (spot.Hit x looks) e); inside = hit_in q framed e }
+  pub stands_ends : {p x : ℕ} → r.spot ≡ Ends p x → {at : Option ℕ} → Links x at → Finds xs (stands_at xs mode k n) (Ok (record { node = at; equal = false; looks = r.looks }))
+  stands_ends e {at} l = record { exact = rw (← told q e, l.0); inside = node_in at (search_ended xs mode k n (told q e)).after_most l }
 
-  pub stands_ends : {p x looks : ℕ} → r.spot ≡ spot.Ends p x looks → Finds xs f (stands_at xs mode k n) (Node x false looks)
-  stands_ends {p} {x} {looks} e = record { exact = rw (← told q (spot.Ends p x looks) e); inside = after_in q framed e }
+  pub passed_ends : {p x : ℕ} → r.spot ≡ Ends p x → {at : Option ℕ} → Links p at → Finds xs (passed_at xs mode k n) (Ok (record { node = at; equal = false; looks = r.looks }))
+  passed_ends e {at} l = record { exact = rw (← told q e, l.0); inside = node_in at (search_ended xs mode k n (told q e)).before_most l }
 
-  pub passed_bad : {o : ℕ} → r.spot ≡ spot.Bad o → Finds xs f (passed_at xs mode k n) Damaged
-  passed_bad {o} e = record { exact = rw (← told q (spot.Bad o) e); inside = tt }
-
-  pub passed_hit : {x looks : ℕ} → r.spot ≡ spot.Hit x looks → Finds xs f (passed_at xs mode k n) (Node 0 false looks)
-  passed_hit {x} {looks} e = record { exact = rw (← told q (spot.Hit x looks) e); inside = record { framed = framed; most = omega arith } }
-
-  pub passed_ends : {p x looks : ℕ} → r.spot ≡ spot.Ends p x looks → Finds xs f (passed_at xs mode k n) (Node p false looks)
-  passed_ends {p} {x} {looks} e = record { exact = rw (← told q (spot.Ends p x looks) e); inside = before_in q framed e }
-
-module _ (xs : List ℕ) {f : Frame} (framed : Framed xs f) {x : ℕ} (link : x ≡ word xs 16) where
-  pub first_damaged : f.count < x → Finds xs f (first_at xs) Damaged
+module _ {xs : List ℕ} {f : Frame} (framed : Framed xs f) {x : ℕ} (link : x ≡ word xs 16) where
+  pub first_damaged : f.count < x → Finds xs (first_at xs) (Err Damaged)
   unfolding link_of
   first_damaged h = record { exact = rw (← link, lt-leb x (count xs) (omega (arith, framed.count_is))); inside = tt }
 
-  pub first_found : x ≤ f.count → Finds xs f (first_at xs) (Node x false 1)
+  pub first_found : x ≤ f.count → {at : Option ℕ} → Links x at → Finds xs (first_at xs) (Ok (record { node = at; equal = false; looks = 1 }))
   unfolding link_of
-  first_found h = record { exact = rw (← link, le-leb x (count xs) (omega (arith, framed.count_is))); inside = record { framed = framed; most = h } }
+  first_found h {at} l = record { exact = rw (← link, le-leb x (count xs) (omega (arith, framed.count_is)), l.0); inside = node_in at (omega (arith, framed.count_is)) l }
 
 -- ---- what an answer says of the search behind it
 
--- the search ended, and there the neighbour is
-ended : (show : Found → Beside) (r : Read Found) {b : Beside} → given b ≡ reading r (λ q. given (show q)) → (q : Found) × (got q ≡ r) × (b ≡ show q)
-ended show (got q) e = (q, refl, cc)
-ended show (bad o) e = let z : ◌≡◌ {A = ℕ} 0 1 = cc in absurd (omega arith)
-
--- and goes on from there
+-- the search ended, and goes on from there
 pub ended_on : {A : Type 0} (r : Read Found) {b : Beside} → given b ≡ reading r (λ q. given (stood q)) → (go : Beside → Answer A) → go b ≡ reading r (λ q. go (stood q))
-ended_on r e go = let (q, g, same) = ended stood r e in ap go same ∙ on_from q r g
-  where
-    on_from : (q : Found) (r : Read Found) → got q ≡ r → go (stood q) ≡ reading r (λ q. go (stood q))
-    on_from q r g = rw (← g)
+ended_on (got q) e go = ap go cc
+ended_on (bad o) e go = absurd cc
 
--- the search met a byte at fault
-pub failed : (show : Found → Beside) (r : Read Found) → refused damaged ≡ reading r (λ q. given (show q)) → (o : ℕ) × (bad o ≡ r)
-failed show (got q) e = let z : ◌≡◌ {A = ℕ} 0 1 = cc in absurd (omega arith)
-failed show (bad o) e = (o, refl)
-
--- where the neighbour is equal to the probe, the search stopped at it
-pub equal_hit : (r : Read Found) {x looks : ℕ} {same : Bool} → given (record { node = x; equal = same; looks = looks }) ≡ reading r (λ q. given (stood q)) → not same ≡ false → got (hit x looks) ≡ r
-equal_hit r {x} {looks} {same} e t = let (q, g, b) = ended stood r e in go q b ∙ g
-  where
-    go : (q : Found) → record { node = x; equal = same; looks = looks } ≡ stood q → got (hit x looks) ≡ got q
-    go (hit y l) b = let i = ap (λ (d : Beside). d.node) b in let j = ap (λ (d : Beside). d.looks) b in rw (i, j)
-    go (ends p y l prev) b = absurd (true≢false (sym (not-false same t) ∙ ap (λ (d : Beside). d.equal) b))
-
--- where it is not, the search ended before it
-pub other_ends : (r : Read Found) {x looks : ℕ} {same : Bool} → given (record { node = x; equal = same; looks = looks }) ≡ reading r (λ q. given (stood q)) → not same ≡ true
-    → (p : ℕ) × (prev : List ℕ) × (got (ends p x looks prev) ≡ r)
-other_ends r {x} {looks} {same} e t = let (q, g, b) = ended stood r e in let (p, prev, h) = go q b in (p, prev, h ∙ g)
-  where
-    go : (q : Found) → record { node = x; equal = same; looks = looks } ≡ stood q → (p : ℕ) × (prev : List ℕ) × (got (ends p x looks prev) ≡ got q)
-    go (hit y l) b = absurd (true≢false (sym (ap (λ (d : Beside). d.equal) b) ∙ not-true same t))
-    go (ends p y l prev) b = let i = ap (λ (d : Beside). d.node) b in let j = ap (λ (d : Beside). d.looks) b in (p, prev, rw (i, j))
-
--- so it is a node
-pub equal_numbered : (xs : List ℕ) (mode : OnEqual) (k : List ℕ) (n : ℕ) {f : Frame} {x looks : ℕ} {same : Bool}
-    → Finds xs f (stands_at xs mode k n) (Node x same looks) → not same ≡ false → Numbered xs f x
-equal_numbered xs mode k n f t = record { framed = f.inside.framed; some = (search_stopped xs mode k n (equal_hit (searched xs mode k n) f.exact t)).some; most = f.inside.most }
+-- the search met a byte at fault: it is damage
+pub failed : (show : Found → Beside) (r : Read Found) {f : is.Refusal} → refused f ≡ reading r (λ q. given (show q)) → (f ≡ is.damaged) × ((o : ℕ) × (bad o ≡ r))
+failed show (got q) e = absurd cc
+failed show (bad o) e = (cc, (o, refl))
 
 -- ---- the end of a move on a neighbour
 
 module _ (xs : List ℕ) where
-  landed : (show : Found → Beside) (r : Read Found) → lands_on xs (reading r (λ q. given (show q))) ≡ reading (bind r (λ q. landing xs (cursor_at (show q).node))) given
+  -- where the answer leads
+  abbrev lands_there : Answer Beside → Answer Cursor
+  lands_there (refused f) = refused f
+  lands_there (given b) = reading (landing xs (cursor_at b.node)) given
+
+  landed : (show : Found → Beside) (r : Read Found) → lands_there (reading r (λ q. given (show q))) ≡ reading (bind r (λ q. landing xs (cursor_at (show q).node))) given
   landed show (got q) = refl
   landed show (bad o) = refl
 
-  module _ {a : Answer Beside} {c : Answer Cursor} (lands : c ≡ lands_on xs a) where
-    pub lands_standing : (mode : OnEqual) (k : List ℕ) (n : ℕ) → a ≡ stands_at xs mode k n → c ≡ reading (first_not_passed xs mode k n) given
-    lands_standing mode k n e = lands ∙ ap (lands_on xs) e ∙ landed stood (searched xs mode k n)
+  lands_as : (r : Result Neighbour Refusal) → lands_on xs r ≡ lands_there (answer_as beside_is r)
+  lands_as (Ok b) = refl
+  lands_as (Err q) = refl
 
-    pub lands_passed : (k : List ℕ) (n : ℕ) → a ≡ passed_at xs to_go_down k n → c ≡ reading (last_before xs k n) given
-    lands_passed k n e = lands ∙ ap (lands_on xs) e ∙ landed left (searched xs to_go_down k n)
-
-    pub lands_first : a ≡ first_at xs → c ≡ reading (first_entry xs) given
-    lands_first e = lands ∙ ap (lands_on xs) e ∙ by_test (leb (link_of xs 0 0) (count xs))
-      where
-        by_test : (t : Bool)
-            → lands_on xs (demand t damaged (given (record { node = link_of xs 0 0; equal = false; looks = 1 })))
-            ≡ reading (bind (check t (link_place xs 0 0) (got (cursor_at (link_of xs 0 0)))) (landing xs)) given
-        by_test true = refl
-        by_test false = refl
+  module _ {r : Result Neighbour Refusal} where
+    pub lands_standing : (mode : OnEqual) (k : List ℕ) (n : ℕ) → Finds xs (stands_at xs mode k n) r → lands_on xs r ≡ reading (first_not_passed xs mode k n) given
+    lands_standing mode k n f = lands_as r ∙ ap lands_there f.exact ∙ landed stood (searched xs mode k n)

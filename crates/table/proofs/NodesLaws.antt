@@ -1,24 +1,20 @@
 -- Header and nodes as code reads them: each way out of the code.
-use Prim.Native.Nat.{ℕ, ◌+◌, ◌*◌, ◌<◌, ◌≤◌}
-use native.Mathlib.Omega.{arith}
-use mathlib.Core.Path.{◌≡◌, refl, sym, ap, ◌∙◌}
-use mathlib.Core.Logic.{inl, inr}
-use mathlib.Core.List.{List}
-use mathlib.Core.Bool.{Bool, true, false}
-use lib.ListN.{length}
-use borrow.Author.Tests.{le-leb, lt-leb}
-use Rattle.image.specs.Limits.{header_size, max_image, max_nodes, levels}
+use Rattle.std.proofs.Common.{ℕ, ◌+◌, ◌<◌, ◌≤◌, ◌≡◌, refl, sym, ap, ◌∙◌, arith, inl, inr, List, Bool, true, false, length, Option, Some, None, is_some, le-leb}
+use Rattle.std.proofs.lemmas.Bool.{lt-leb}
+use Rattle.image.specs.Limits.{header_size, levels}
 use Rattle.image.specs.Words.{word}
-use Rattle.image.specs.Readers.{Read, got, bad, bind}
-use Rattle.image.specs.Entries.{Keyed, Parts, keyed_at, rest_at}
-use Rattle.image.specs.Nodes.{count, free, slot, entry_place, Lead, lead_at, lead_of, Node, node_from, node_at, links_at, link_place}
+use Rattle.image.specs.Readers.{got, bad}
+use Rattle.image.specs.Entries.{Keyed, keyed_at, rest_at}
+use Rattle.image.specs.Nodes.{free, slot, entry_place, Lead, lead_at, lead_of, Node, node_from, node_at, links_at, link_place}
 use Rattle.image.specs.Sound.{Header, header_holds}
 use Rattle.image.proofs.Readers.{got_same, bind_got}
 use Rattle.image.proofs.Nodes.{lead_bounds, links_node}
 use Rattle.image.proofs.Sound.{header_sound, header_complete}
 use Rattle.image.specs.Added.{HasLink}
-use Rattle.table.specs.Nodes.{Framed}
-use Rattle.table.specs.declared.nodes.Frame.{Frame}
+use Rattle.table.specs.Framed.{Framed}
+use Rattle.table.specs.Nodes.{Opens}
+use Rattle.table.specs.declared.tested.Frame.{Frame}
+use Rattle.table.specs.declared.tested.Table.{Table}
 
 -- ---- the header
 
@@ -30,15 +26,14 @@ header_fails xs n = go (header_holds xs) refl
     go true e = absurd (n (header_sound xs e))
     go false e = refl
 
--- a header that passes every test
-pub header_read : (xs : List ℕ) {n used : ℕ} → n ≡ count xs → used ≡ free xs → header_size ≤ length xs → length xs ≤ max_image → word xs 0 ≡ length xs
-    → word xs 12 ≡ levels → n ≤ max_nodes → header_size ≤ used → used + 4 * n ≤ length xs → Framed xs (record { count = n; free = used })
-header_read xs c f long short total leveled few low high =
-    record { header = record { long = long; short = short; total = total; leveled = leveled; few = omega arith; low = omega arith; high = omega arith }; count_is = c; free_is = f }
-
 -- a header that was read holds
 pub framed_holds : (xs : List ℕ) {f : Frame} → Framed xs f → header_holds xs ≡ true
 framed_holds xs f = header_complete xs f.header
+
+-- a table is opened exactly if the header holds
+pub opened_holds : (xs : List ℕ) (t : Option Table) → Opens xs t → is_some t ≡ header_holds xs
+opened_holds xs (Some t) e = sym (framed_holds xs (rw e at t.framed))
+opened_holds xs None e = sym e
 
 -- ---- the lead of a node
 
@@ -82,19 +77,6 @@ module _ (xs : List ℕ) (limit o : ℕ) where
 -- a lead that was read ends in the image, and its key and tag before its end
 pub lead_inside : (xs : List ℕ) (limit o : ℕ) {m : Lead} → limit ≤ length xs → got m ≡ lead_at xs limit o → (m.end ≤ length xs) × (m.keyed.key_at + m.keyed.key_len + 8 ≤ m.end)
 lead_inside xs limit o {m} h e = let b = lead_bounds xs limit o m (sym e) in (omega arith, omega arith)
-
--- ---- the whole node
-
-module _ (xs : List ℕ) {r : Read Lead} where
-  pub node_bad : {p : ℕ} → bad p ≡ r → bad p ≡ bind r (node_from xs)
-  node_bad e = rw (← e)
-
-  module _ {m : Lead} (lead : got m ≡ r) where
-    pub node_cut : {p : ℕ} → bad p ≡ rest_at xs m.end m.keyed → bad p ≡ bind r (node_from xs)
-    node_cut e = rw (← lead, ← e)
-
-    pub node_whole : {p : Parts} → got p ≡ rest_at xs m.end m.keyed → got (record { start = m.start; height = m.height; parts = p; end = m.end }) ≡ bind r (node_from xs)
-    node_whole e = rw (← lead, ← e)
 
 -- ---- links
 

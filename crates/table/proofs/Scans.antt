@@ -5,6 +5,7 @@ use mathlib.Core.Path.{◌≡◌, refl, ap}
 use mathlib.Core.List.{List, Memᴰ}
 use mathlib.Core.Bool.{Bool, true, false}
 use lib.ListN.{length}
+use Rattle.std.specs.Prelude.{Ok}
 use Rattle.rule.specs.Order.{is_less}
 use Rattle.rule.specs.Entries.{Entry, order}
 use Rattle.rule.proofs.Order.{entries, less_true}
@@ -16,7 +17,6 @@ use Rattle.table.specs.MemtableIter.{MovesEntry}
 use Rattle.table.specs.Scans.{EntryGoesOn, EntryScan, went}
 use Rattle.table.specs.declared.memtable_iter.EntryCursor.{EntryCursor}
 use Rattle.table.specs.declared.memtable_iter.EntryCursor.TheVariants.{Nowhere, On}
-use Rattle.table.specs.declared.memtable_iter.EntryMoved.TheVariants.{To}
 use Rattle.table.proofs.Laws.{node_held, held_length}
 
 -- the order of entries, and its opposite
@@ -34,8 +34,8 @@ after_trans e f g p q = ap is_less (entries.trans (e.key, e.number) (f.key, f.nu
 
 -- one argument for both ways: a move from a node ends ahead of it, on an entry that is held
 module _ (xs : List ℕ) (m : EntryMove) (ahead : Entry → Entry → Bool) (never : (e : Entry) → ahead e e ≡ false) (trans : (e f g : Entry) → ahead e f ≡ true → ahead f g ≡ true → ahead e g ≡ true)
-    (held_there : (c : EntryCursor) (j : ℕ) → MovesEntry xs m c (To (On j)) → Memᴰ (entry_of xs j) (held xs))
-    (goes : (i j : ℕ) → MovesEntry xs m (On i) (To (On j)) → ahead (entry_of xs i) (entry_of xs j) ≡ true) where
+    (held_there : (c : EntryCursor) (j : ℕ) → MovesEntry xs m c (Ok (On j)) → Memᴰ (entry_of xs j) (held xs))
+    (goes : (i j : ℕ) → MovesEntry xs m (On i) (Ok (On j)) → ahead (entry_of xs i) (entry_of xs j) ≡ true) where
   from_node : (i k : ℕ) → EntryScan xs m (On i) k → k ≤ left ahead never trans (entry_of xs i) (held xs)
   from_node i zero s = omega arith
   from_node i (suc k) (went j p s) = let a = from_node j k s in let b = left_less ahead never trans (entry_of xs i) (entry_of xs j) (goes i j p) (held xs) (held_there (On i) j p) in omega arith

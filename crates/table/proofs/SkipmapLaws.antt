@@ -1,55 +1,34 @@
--- The search as code makes it: what a link says, and what holds at each turn of the loop.
-use Prim.Native.Nat.{ℕ, zero, suc, ◌+◌, ◌-◌, ◌*◌, ◌/◌, ◌<◌, ◌≤◌}
+-- The search as code makes it: what is read of a node, and what holds at each turn of the loop.
+use Prim.Native.Nat.{ℕ, zero, suc, ◌+◌, ◌-◌, ◌*◌, ◌<◌, ◌≤◌}
 use native.Mathlib.Omega.{arith}
 use native.Mathlib.Numerals.{add-one}
-use mathlib.Core.Path.{◌≡◌, refl, sym, ap, ◌∙◌}
+use mathlib.Core.Path.{◌≡◌, refl, sym, ◌∙◌}
 use mathlib.Core.Logic.{inl}
 use mathlib.Core.List.{List}
 use lib.ListN.{length, get_or, set, replicate, length-set}
 use lib.Seq.{get_or-set_same, get_or-set_other}
 use native.Mathlib.Decide.{ℕ_discrete}
-use borrow.Author.Tests.{lt-ltb, le-ltb, le-leb, lt-leb}
-use Rattle.rule.specs.Order.{Ord, compare_entries}
+use borrow.Author.Tests.{le-leb, lt-leb}
+use Rattle.std.specs.Prelude.{Result, Ok, Err}
 use Rattle.image.specs.Limits.{levels}
 use Rattle.image.specs.Words.{word}
-use Rattle.image.specs.Entries.{key_in}
-use Rattle.image.specs.Readers.{Read, got, bad, bind}
+use Rattle.image.specs.Readers.{Read, got, bad}
 use Rattle.image.specs.Nodes.{count, free, slot, Lead, lead_of, links_at, link_place, link_of}
 use Rattle.image.proofs.Nodes.{lead_bounds}
 use Rattle.image.specs.Sound.{Header}
-use Rattle.image.specs.Search.{Turn, onward, halt, below, OnEqual, turn_by, ends, find, ask, meet, look, searched}
+use Rattle.image.specs.Search.{Turn, onward, halt, below, OnEqual, ends, find, meet, look, searched}
 use Rattle.image.proofs.Machine.{find_bad, find_onward, find_halt, find_none, find_ends, find_down}
 use Rattle.image.specs.Added.{HasLink}
 use Rattle.image.proofs.Search.{good_lower, look_good}
-use Rattle.table.specs.Nodes.{Framed}
+use Rattle.table.specs.Framed.{Framed}
 use Rattle.table.specs.Skipmap.{Searches}
-use Rattle.table.specs.declared.nodes.Frame.{Frame}
-use Rattle.table.specs.declared.skipmap.Spot.{Spot}
-use Rattle.table.specs.declared.skipmap.Spot.TheVariants.{Hit, Ends, Bad}
+use Rattle.table.specs.declared.refusals.Fault.{Fault}
+use Rattle.table.specs.declared.tested.Frame.{Frame}
+use Rattle.table.specs.declared.skipmap.Spot.TheVariants.{Hit, Ends}
+use Rattle.table.specs.declared.skipmap.Searched.{Searched}
 use Rattle.table.proofs.NodesLaws.{lead_inside, good_inside}
 
--- ---- what a link says
-
-module _ (xs : List ℕ) (mode : OnEqual) (k : List ℕ) (s level from : ℕ) where
-  pub meet_none : (x : ℕ) → x < 1 → got below ≡ meet xs mode k s level from x
-  meet_none zero h = refl
-  meet_none (suc x) h = absurd (omega arith)
-
-  meet_node : (x : ℕ) → 1 ≤ x → {r : Read Lead} → r ≡ lead_of xs x → bind r (ask xs mode k s level from) ≡ meet xs mode k s level from x
-  meet_node zero h e = absurd (omega arith)
-  meet_node (suc x) h e = ap (λ (q : Read Lead). bind q (ask xs mode k s level from)) e
-
-  module _ (x : ℕ) (some : 1 ≤ x) where
-    pub meet_bad : {o : ℕ} → bad o ≡ lead_of xs x → bad o ≡ meet xs mode k s level from x
-    meet_bad e = meet_node x some e
-
-    module _ {m : Lead} (lead : got m ≡ lead_of xs x) where
-      pub meet_low : m.height ≤ level → bad from ≡ meet xs mode k s level from x
-      meet_low h = rw (le-ltb level m.height h) at (meet_node x some lead)
-
-      pub meet_turn : level < m.height → {number : ℕ} → number ≡ m.keyed.tag_is / 256 → {key : List ℕ} → key ≡ key_in xs m.keyed → {o : Ord} → o ≡ compare_entries key number k s
-          → {t : Read Turn} → t ≡ got (turn_by mode o) → t ≡ meet xs mode k s level from x
-      meet_turn h p e c f = f ∙ (rw (lt-ltb level m.height h, ← p, ← e, ← c) at (meet_node x some lead))
+-- ---- what is read of a node
 
 -- the key of a node that was read lies in the image
 pub key_inside : (xs : List ℕ) (x : ℕ) {m : Lead} → Header xs → got m ≡ lead_of xs x → m.keyed.key_at + m.keyed.key_len ≤ length xs
@@ -63,10 +42,7 @@ links_fit xs x {m} h e = let b = lead_bounds xs (free xs) (slot xs x) m (sym e) 
 
 -- the whole search is what the machine finds from here, with the looks that are left, for the nodes `prev` that it records; the places of
 -- their links above the level are in hand
-pub record Looking (xs : List ℕ) (f : Frame) (mode : OnEqual) (k : List ℕ) (s n most : ℕ) (places : List ℕ) (before links level looks : ℕ) : Type 0 where
-  pub framed : Framed xs f
-  pub count_is : n ≡ count xs
-  pub most_is : most ≡ n + levels
+pub record Looking (xs : List ℕ) (mode : OnEqual) (k : List ℕ) (s : ℕ) (places : List ℕ) (before links level looks : ℕ) : Type 0 where
   pub low : level < levels
   pub links_are : links ≡ links_at xs before
   pub inside : links + 4 * level + 4 ≤ length xs
@@ -75,18 +51,15 @@ pub record Looking (xs : List ℕ) (f : Frame) (mode : OnEqual) (k : List ℕ) (
   pub room : length prev ≡ levels
   pub places_room : length places ≡ levels
   pub placed : (l : ℕ) → level < l → l < levels → get_or places l 0 ≡ link_place xs (get_or prev l 0) l
-  pub same : searched xs mode k s ≡ find (look xs mode k s) (link_of xs) (link_place xs) (most - looks) before level looks prev
+  pub same : searched xs mode k s ≡ find (look xs mode k s) (link_of xs) (link_place xs) (count xs + levels - looks) before level looks prev
 
-pub looking_start : (xs : List ℕ) (f : Frame) (mode : OnEqual) (k : List ℕ) (s : ℕ) → Framed xs f → Looking xs f mode k s f.count (f.count + levels) (replicate levels 0) 0 16 (levels - 1) 0
-looking_start xs f mode k s h =
-    let z : f.count + levels - 0 ≡ count xs + levels = omega (arith, h.count_is) in
+pub looking_start : (xs : List ℕ) (mode : OnEqual) (k : List ℕ) (s : ℕ) → Header xs → Looking xs mode k s (replicate levels 0) 0 16 (levels - 1) 0
+looking_start xs mode k s h =
+    let z : count xs + levels - 0 ≡ count xs + levels = omega arith in
     record {
-      framed = h;
-      count_is = h.count_is;
-      most_is = refl;
       low = omega arith;
       links_are = refl;
-      inside = omega (arith, h.header.long);
+      inside = omega (arith, h.long);
       good = inl refl;
       prev = replicate levels 0;
       room = refl;
@@ -115,68 +88,73 @@ placed_more xs prev places level before place r pr low p h l a b = go (ℕ_discr
     go (yes z) = rw (z, get_or-set_same places level place 0 (omega arith), get_or-set_same prev level before 0 (omega arith)) p
     go (no z) = rw (get_or-set_other places level l place 0 z, get_or-set_other prev level l before 0 z) (h l (omega arith) b)
 
-module _ {xs : List ℕ} {f : Frame} {mode : OnEqual} {k : List ℕ} {s n most : ℕ} {places : List ℕ} {before links level looks : ℕ}
-    (g : Looking xs f mode k s n most places before links level looks) where
-  abbrev Answer : Spot → List ℕ → Type 0
-  Answer spot places = Searches xs mode k s (record { spot = spot; places = places })
+module _ {xs : List ℕ} {f : Frame} (framed : Framed xs f) {mode : OnEqual} {k : List ℕ} {s : ℕ} {places : List ℕ} {before links level looks : ℕ}
+    (g : Looking xs mode k s places before links level looks) where
+  abbrev Answer : Result Searched Fault → Type 0
+  Answer r = Searches xs mode k s r
+
+  -- a byte at fault
+  abbrev at_fault : ℕ → Result Searched Fault
+  at_fault o = Err (record { at = o })
 
   -- no look is left
-  pub looking_out : most ≤ looks → Answer (Bad (links + 4 * level)) places
+  pub looking_out : looks ≡ f.count + levels → Answer (at_fault (links + 4 * level))
   looking_out h =
-      let z : most - looks ≡ 0 = omega arith in
+      let z : count xs + levels - looks ≡ 0 = omega (arith, framed.count_is) in
       record { prev = g.prev; exact = sym (g.same ∙ rw (z, find_none (look xs mode k s) (link_of xs) (link_place xs) before level looks g.prev, g.links_are)); placed = tt }
 
-  module _ (some : looks < most) {x : ℕ} (is : x ≡ word xs (links + 4 * level)) where
+  module _ (some : looks < f.count + levels) {x : ℕ} (is : x ≡ word xs (links + 4 * level)) where
     link_is : link_of xs before level ≡ x
     unfolding link_of
     link_is = rw (← g.links_are) (sym is)
 
-    from : searched xs mode k s ≡ find (look xs mode k s) (link_of xs) (link_place xs) (suc (most - (looks + 1))) before level looks g.prev
-    from = let z : most - looks ≡ suc (most - (looks + 1)) = omega arith in g.same ∙ rw z
+    -- the looks that are left after this one
+    abbrev rest : ℕ
+    rest = count xs + levels - (looks + 1)
+
+    from : searched xs mode k s ≡ find (look xs mode k s) (link_of xs) (link_place xs) (suc rest) before level looks g.prev
+    from = let z : count xs + levels - looks ≡ suc rest = omega (arith, framed.count_is) in g.same ∙ rw z
 
     -- a link above n
-    pub looking_over : n < x → Answer (Bad (links + 4 * level)) places
+    pub looking_over : f.count < x → Answer (at_fault (links + 4 * level))
     unfolding look
     looking_over h =
         record {
           prev = g.prev;
-          exact = sym (from ∙ find_bad (look xs mode k s) (link_of xs) (link_place xs) (most - (looks + 1)) before level looks g.prev
-              (links + 4 * level) (rw (link_is, lt-leb x (count xs) (omega (arith, g.count_is)), g.links_are)));
+          exact = sym (from ∙ find_bad (look xs mode k s) (link_of xs) (link_place xs) rest before level looks g.prev
+              (links + 4 * level) (rw (link_is, lt-leb x (count xs) (omega (arith, framed.count_is)), g.links_are)));
           placed = tt;
         }
 
-    module _ (low : x ≤ n) where
+    module _ (low : x ≤ f.count) where
       look_is : (t : Read Turn) → t ≡ meet xs mode k s level (links + 4 * level) x → look xs mode k s before level ≡ t
       unfolding look
-      look_is t e = rw (link_is, le-leb x (count xs) (omega (arith, g.count_is)), ← g.links_are) (sym e)
+      look_is t e = rw (link_is, le-leb x (count xs) (omega (arith, framed.count_is)), ← g.links_are) (sym e)
 
-      pub looking_bad : {p : ℕ} → bad p ≡ meet xs mode k s level (links + 4 * level) x → Answer (Bad p) places
+      pub looking_bad : {p : ℕ} → bad p ≡ meet xs mode k s level (links + 4 * level) x → Answer (at_fault p)
       looking_bad {p} e =
-          record { prev = g.prev; exact = sym (from ∙ find_bad (look xs mode k s) (link_of xs) (link_place xs) (most - (looks + 1)) before level looks g.prev p (look_is (bad p) e)); placed = tt }
+          record { prev = g.prev; exact = sym (from ∙ find_bad (look xs mode k s) (link_of xs) (link_place xs) rest before level looks g.prev p (look_is (bad p) e)); placed = tt }
 
-      pub looking_halt : got halt ≡ meet xs mode k s level (links + 4 * level) x → Answer (Hit x (looks + 1)) places
+      pub looking_halt : got halt ≡ meet xs mode k s level (links + 4 * level) x → Answer (Ok (record { spot = Hit x; looks = looks + 1; places = places }))
       looking_halt e =
           record {
             prev = g.prev;
-            exact = sym (from ∙ find_halt (look xs mode k s) (link_of xs) (link_place xs) (most - (looks + 1)) before level looks g.prev
+            exact = sym (from ∙ find_halt (look xs mode k s) (link_of xs) (link_place xs) rest before level looks g.prev
                 (look_is (got halt) e) ∙ rw (link_is, add-one looks));
             placed = tt;
           }
 
-      pub looking_onward : got onward ≡ meet xs mode k s level (links + 4 * level) x → {links' : ℕ} → links' ≡ links_at xs x → Looking xs f mode k s n most places x links' level (looks + 1)
+      pub looking_onward : got onward ≡ meet xs mode k s level (links + 4 * level) x → {links' : ℕ} → links' ≡ links_at xs x → Looking xs mode k s places x links' level (looks + 1)
       looking_onward e z = record {
-        framed = g.framed;
-        count_is = g.count_is;
-        most_is = g.most_is;
         low = g.low;
         links_are = z;
-        inside = rw z (good_inside xs x level g.framed.header g.low good);
+        inside = rw z (good_inside xs x level framed.header g.low good);
         good = good;
         prev = g.prev;
         room = g.room;
         places_room = g.places_room;
         placed = g.placed;
-        same = from ∙ find_onward (look xs mode k s) (link_of xs) (link_place xs) (most - (looks + 1)) before level looks g.prev (look_is (got onward) e) ∙ rw (link_is, add-one looks);
+        same = from ∙ find_onward (look xs mode k s) (link_of xs) (link_place xs) rest before level looks g.prev (look_is (got onward) e) ∙ rw (link_is, add-one looks);
       }
         where
           good : HasLink xs x level
@@ -187,18 +165,15 @@ module _ {xs : List ℕ} {f : Frame} {mode : OnEqual} {k : List ℕ} {s n most :
         more : (l : ℕ) → level ≤ l → l < levels → get_or (set places level (links + 4 * level)) l 0 ≡ link_place xs (get_or (set g.prev level before) l 0) l
         more = placed_more xs g.prev places level before (links + 4 * level) g.room g.places_room g.low (rw g.links_are) g.placed
 
-        pub looking_ends : level ≡ 0 → Answer (Ends before x (looks + 1)) (set places level (links + 4 * level))
+        pub looking_ends : level ≡ 0 → Answer (Ok (record { spot = Ends before x; looks = looks + 1; places = set places level (links + 4 * level) }))
         looking_ends z = record {
           prev = set g.prev level before;
-          exact = sym (from ∙ ends_at (look xs mode k s) (link_of xs) (link_place xs) (most - (looks + 1)) before looks g.prev level (look_is (got below) e) z ∙ rw (link_is, add-one looks));
+          exact = sym (from ∙ ends_at (look xs mode k s) (link_of xs) (link_place xs) rest before looks g.prev level (look_is (got below) e) z ∙ rw (link_is, add-one looks));
           placed = λ l b. more l (omega arith) b;
         }
 
-        pub looking_down : (level ≡ 0 → ⊥) → Looking xs f mode k s n most (set places level (links + 4 * level)) before links (level - 1) (looks + 1)
+        pub looking_down : (level ≡ 0 → ⊥) → Looking xs mode k s (set places level (links + 4 * level)) before links (level - 1) (looks + 1)
         looking_down z = record {
-          framed = g.framed;
-          count_is = g.count_is;
-          most_is = g.most_is;
           low = omega (arith, g.low);
           links_are = g.links_are;
           inside = omega (arith, g.inside);
@@ -207,5 +182,5 @@ module _ {xs : List ℕ} {f : Frame} {mode : OnEqual} {k : List ℕ} {s n most :
           room = length-set g.prev level before ∙ g.room;
           places_room = length-set places level (links + 4 * level) ∙ g.places_room;
           placed = λ l a b. more l (omega arith) b;
-          same = from ∙ down_at (look xs mode k s) (link_of xs) (link_place xs) (most - (looks + 1)) before looks g.prev level (look_is (got below) e) z ∙ rw (add-one looks);
+          same = from ∙ down_at (look xs mode k s) (link_of xs) (link_place xs) rest before looks g.prev level (look_is (got below) e) z ∙ rw (add-one looks);
         }

@@ -1,5 +1,5 @@
 -- What the check answers, and what its parts ask of an image.
-use Rattle.std.specs.Prelude.{ℕ, ◌+◌, ◌*◌, ◌≤◌, ◌≡◌, ◌↔◌, List, Bool, true, length}
+use Rattle.std.specs.Prelude.{ℕ, ◌+◌, ◌*◌, ◌≤◌, ◌≡◌, ◌↔◌, List, Bool, true, length, Option, Some, None, IfSome}
 use Rattle.rule.specs.Order.{is_less}
 use Rattle.image.specs.Limits.{levels}
 use Rattle.image.specs.Entries.{compare_keyed}
@@ -8,8 +8,6 @@ use Rattle.image.specs.Sound.{Header, Sound}
 use Rattle.image.specs.Check.{stepped, is_sound}
 use Rattle.table.specs.Entries.{keyed_of}
 use Rattle.table.specs.declared.entries.Keyed.{Keyed}
-use Rattle.table.specs.declared.check.Met.{Met}
-use Rattle.table.specs.declared.check.Met.TheVariants.{Head, Node}
 
 -- the answer is that of the test, and yes exactly if the image is sound
 pub record Checked (xs : List ℕ) (yes : Bool) : Type 0 where
@@ -31,14 +29,13 @@ pub record KeyInside (xs : List ℕ) (k : Keyed) : Type 0 where
   pub inside : k.key_at + k.key_len ≤ length xs
 
 -- the same of what was met last
-abbrev pub MetInside : List ℕ → Met → Type 0
-MetInside xs Head = Unit
-MetInside xs (Node k) = KeyInside xs k
+abbrev pub LastInside : List ℕ → Option Keyed → Type 0
+LastInside xs last = IfSome last (KeyInside xs)
 
 -- whether the entry met last, if there is one, comes before another
-abbrev pub met_before : List ℕ → Met → Keyed → Bool
-met_before xs Head k = true
-met_before xs (Node p) k = is_less (compare_keyed xs (keyed_of p) (keyed_of k))
+abbrev pub last_before : List ℕ → Option Keyed → Keyed → Bool
+last_before xs None k = true
+last_before xs (Some p) k = is_less (compare_keyed xs (keyed_of p) (keyed_of k))
 
 -- what each level below h is to meet behind a node whose links stand at a place
 pub record StepsTo (xs : List ℕ) (at : ℕ) (next : List ℕ) (h : ℕ) (links : List ℕ) : Type 0 where

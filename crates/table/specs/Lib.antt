@@ -1,6 +1,7 @@
 pub mod KeyTypes
 pub mod Entries
 pub mod Insert
+pub mod Framed
 pub mod Nodes
 pub mod Skipmap
 pub mod Neighbours

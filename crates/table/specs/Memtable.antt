@@ -1,6 +1,6 @@
 -- What the calls on one table promise: `exact`, the answer and every lent byte on any bytes, and what follows from it for a reader:
 -- `rule`, what it means on a sound image, and on any bytes how many looks it took and which bytes it may have changed.
-use Rattle.std.specs.Prelude.{ℕ, ◌+◌, ◌≤◌, ◌≡◌, List, [], length}
+use Rattle.std.specs.Prelude.{ℕ, ◌+◌, ◌≤◌, ◌≡◌, List, [], length, Option, Some, None, Result, Ok, Err, IfOk, IfSome}
 use Rattle.rule.specs.Entries.{Entry}
 use Rattle.image.specs.Limits.{header_size, max_image, max_number, max_key, levels}
 use Rattle.image.specs.Nodes.{count}
@@ -12,22 +12,19 @@ use Rattle.image.specs.Add.{Grown, add, afterwards}
 use Rattle.image.specs.Added.{Added as AddedIs, Outcome, Confined}
 use Rattle.image.specs.Lookup.{Looked, found, deleted, absent, Lookup as LookupIs, get}
 use Rattle.image.specs.Meaning.{Tells}
-use Rattle.table.specs.Refusals.{refusal_is}
-use Rattle.table.specs.declared.memtable.Freshened.{Freshened}
-use Rattle.table.specs.declared.memtable.Freshened.TheVariants as freshened
-use Rattle.table.specs.declared.memtable.Added.{Added}
-use Rattle.table.specs.declared.memtable.Added.TheVariants as added
-use Rattle.table.specs.declared.memtable.Said.{Said}
-use Rattle.table.specs.declared.memtable.Said.TheVariants as said
+use Rattle.table.specs.Refusals.{refusal_is, answer_as}
+use Rattle.table.specs.declared.refusals.Refusal.{Refusal}
+use Rattle.table.specs.declared.key_types.Kind.{Kind}
+use Rattle.table.specs.declared.key_types.Kind.TheVariants.{Deletion, Value}
+use Rattle.table.specs.declared.memtable.Newest.{Newest}
 use Rattle.table.specs.declared.memtable.Lookup.{Lookup}
 use Rattle.table.specs.declared.memtable.Lookup.TheVariants as lookup
 
 -- ---- fresh
 
 -- the answer, with the image afterwards
-abbrev pub freshened_as : Freshened → List ℕ → Answer (List ℕ)
-freshened_as freshened.Done ys = given ys
-freshened_as (freshened.Refused q) ys = refused (refusal_is q)
+abbrev pub freshened_as : Result Unit Refusal → List ℕ → Answer (List ℕ)
+freshened_as r ys = answer_as (λ done. ys) r
 
 -- the image after the call: a refusal keeps every byte
 abbrev pub fresh_after : List ℕ → Answer (List ℕ) → List ℕ
@@ -35,7 +32,7 @@ fresh_after xs (refused r) = xs
 fresh_after xs (given ys) = ys
 
 -- what `fresh` promises, with the bytes afterwards
-pub record Freshens (xs : List ℕ) (r : Freshened) (ys : List ℕ) : Type 0 where
+pub record Freshens (xs : List ℕ) (r : Result Unit Refusal) (ys : List ℕ) : Type 0 where
   pub exact : freshened_as r ys ≡ fresh xs
   pub bytes : ys ≡ fresh_after xs (fresh xs)
   pub rule : header_size ≤ length xs → length xs ≤ max_image → Sound ys × (held ys ≡ [])
@@ -43,17 +40,16 @@ pub record Freshens (xs : List ℕ) (r : Freshened) (ys : List ℕ) : Type 0 whe
 -- ---- add
 
 -- the answer, with the image afterwards
-abbrev pub added_as : Added → List ℕ → Answer Grown
-added_as (added.Node i) ys = given (record { node = i; image = ys })
-added_as (added.Refused q) ys = refused (refusal_is q)
+abbrev pub added_as : Result ℕ Refusal → List ℕ → Answer Grown
+added_as r ys = answer_as (λ i. record { node = i; image = ys }) r
 
 -- on a sound image: the entry is appended in the next node and the table stays sound, or the refusal is not damage
-abbrev pub AddRule : List ℕ → Entry → ℕ → Added → List ℕ → Type 0
-AddRule xs e height (added.Node i) ys = AddedIs xs e height ys × (i ≡ count xs + 1)
-AddRule xs e height (added.Refused q) ys = refusal_is q ≡ damaged → ⊥
+abbrev pub AddRule : List ℕ → Entry → ℕ → Result ℕ Refusal → List ℕ → Type 0
+AddRule xs e height (Ok i) ys = AddedIs xs e height ys × (i ≡ count xs + 1)
+AddRule xs e height (Err q) ys = refusal_is q ≡ damaged → ⊥
 
 -- what `add` promises, with the bytes afterwards
-pub record Adds (xs : List ℕ) (e : Entry) (height : ℕ) (r : Added) (ys : List ℕ) : Type 0 where
+pub record Adds (xs : List ℕ) (e : Entry) (height : ℕ) (r : Result ℕ Refusal) (ys : List ℕ) : Type 0 where
   pub exact : added_as r ys ≡ add xs e height
   pub bytes : ys ≡ afterwards xs (add xs e height)
   pub rule : Sound xs → AddRule xs e height r ys
@@ -64,31 +60,41 @@ pub record Adds (xs : List ℕ) (e : Entry) (height : ℕ) (r : Added) (ys : Lis
 
 -- ---- get
 
--- what node i says of a key
-abbrev pub said_as : ℕ → Said → Answer Looked
-said_as i said.Value = given (found i)
-said_as i said.Deletion = given deleted
-said_as i said.Absent = given absent
-said_as i said.Damaged = refused damaged
+-- what a node says with an entry of this type
+abbrev pub said_of : ℕ → Kind → Looked
+said_of i Value = found i
+said_of i Deletion = deleted
+
+-- what a node says of a key, or nothing
+abbrev pub looked_is : Option Newest → Looked
+looked_is None = absent
+looked_is (Some a) = said_of a.node a.kind
+
+-- what is said is said of that node
+abbrev pub NamesNode : Option ℕ → Result (Option Newest) Refusal → Type 0
+NamesNode at r = IfOk r (λ said. IfSome said (λ a. at ≡ Some a.node))
 
 -- go on with an answer that is given
 abbrev pub and_then {ℓ κ} : {A : Type ℓ} {B : Type κ} → Answer A → (A → Answer B) → Answer B
 and_then (given a) f = f a
 and_then (refused r) f = refused r
 
+-- what a lookup says, with the looks
+abbrev pub lookup_is : Lookup → LookupIs
+lookup_is (lookup.Found i looks) = record { says = found i; looks = looks }
+lookup_is (lookup.Deleted looks) = record { says = deleted; looks = looks }
+lookup_is (lookup.Absent looks) = record { says = absent; looks = looks }
+
 -- the answer
-abbrev pub lookup_as : Lookup → Answer LookupIs
-lookup_as (lookup.Found i looks) = given (record { says = found i; looks = looks })
-lookup_as (lookup.Deleted looks) = given (record { says = deleted; looks = looks })
-lookup_as (lookup.Absent looks) = given (record { says = absent; looks = looks })
-lookup_as (lookup.Refused q) = refused (refusal_is q)
+abbrev pub lookup_as : Result Lookup Refusal → Answer LookupIs
+lookup_as r = answer_as lookup_is r
 
 -- on a sound image, with a key and a snapshot within their limits: what it tells of the newest entry
-abbrev pub GetRule : List ℕ → List ℕ → ℕ → Lookup → Type 0
+abbrev pub GetRule : List ℕ → List ℕ → ℕ → Result Lookup Refusal → Type 0
 GetRule xs k s r = (a : LookupIs) × (lookup_as r ≡ given a) × Tells xs k s a.says
 
 -- what `get` promises
-pub record Gets (xs k : List ℕ) (s : ℕ) (r : Lookup) : Type 0 where
+pub record Gets (xs k : List ℕ) (s : ℕ) (r : Result Lookup Refusal) : Type 0 where
   pub exact : lookup_as r ≡ get xs k s
   -- on any bytes an answer takes at most n + 12 looks
   pub looks : (a : LookupIs) → lookup_as r ≡ given a → a.looks ≤ count xs + levels

@@ -1,12 +1,11 @@
 -- Neighbours in the list, as the code names them.
-use Rattle.std.specs.Prelude.{ℕ, ◌≡◌, List, Bool, true, false, leb}
+use Rattle.std.specs.Prelude.{ℕ, ◌≤◌, ◌≡◌, List, Bool, true, false, leb, Option, Some, None, Result, IfOk, IfSome}
 use Rattle.image.specs.Nodes.{count, link_of}
 use Rattle.image.specs.Search.{OnEqual, Found, hit, ends, searched, looks_of, standing, passed}
-use Rattle.image.specs.Refusals.{damaged, Answer, refused, given, demand, reading}
-use Rattle.table.specs.Nodes.{InTable}
-use Rattle.table.specs.declared.nodes.Frame.{Frame}
+use Rattle.image.specs.Refusals.{damaged, Answer, given, demand, reading}
+use Rattle.table.specs.Refusals.{answer_as}
+use Rattle.table.specs.declared.refusals.Refusal.{Refusal}
 use Rattle.table.specs.declared.neighbours.Neighbour.{Neighbour}
-use Rattle.table.specs.declared.neighbours.Neighbour.TheVariants.{Node, Damaged}
 
 -- the node, 0 for none, whether it is equal to the probe, and the looks
 pub record Beside : Type 0 where
@@ -14,10 +13,14 @@ pub record Beside : Type 0 where
   pub equal : Bool
   pub looks : ℕ
 
--- the answer
-abbrev pub neighbour_as : Neighbour → Answer Beside
-neighbour_as (Node node equal looks) = given (record { node = node; equal = equal; looks = looks })
-neighbour_as Damaged = refused damaged
+-- the number of a node, 0 for none
+abbrev pub node_or_0 : Option ℕ → ℕ
+node_or_0 None = 0
+node_or_0 (Some i) = i
+
+-- a neighbour
+abbrev pub beside_is : Neighbour → Beside
+beside_is b = record { node = node_or_0 b.node; equal = b.equal; looks = b.looks }
 
 -- whether a search stopped at a node equal to its probe
 abbrev pub stopped : Found → Bool
@@ -44,12 +47,15 @@ passed_at xs mode k n = reading (searched xs mode k n) (λ r. given (left r))
 abbrev pub first_at : List ℕ → Answer Beside
 first_at xs = demand (leb (link_of xs 0 0) (count xs)) damaged (given (record { node = link_of xs 0 0; equal = false; looks = 1 }))
 
--- it is a node of the table, or none
-abbrev pub NeighbourIn : List ℕ → Frame → Neighbour → Type 0
-NeighbourIn xs f (Node node equal looks) = InTable xs f node
-NeighbourIn xs f Damaged = Unit
+-- it is the number of one of so many nodes, or none
+abbrev pub NodeIn : ℕ → Option ℕ → Type 0
+NodeIn n at = IfSome at (λ i. (1 ≤ i) × (i ≤ n))
 
 -- what a function that finds a neighbour promises
-pub record Finds (xs : List ℕ) (f : Frame) (what : Answer Beside) (r : Neighbour) : Type 0 where
-  pub exact : neighbour_as r ≡ what
-  pub inside : NeighbourIn xs f r
+pub record Finds (xs : List ℕ) (what : Answer Beside) (r : Result Neighbour Refusal) : Type 0 where
+  pub exact : answer_as beside_is r ≡ what
+  pub inside : IfOk r (λ b. NodeIn (count xs) b.node)
+
+-- the node that a link names; 0 is none
+abbrev pub Links : ℕ → Option ℕ → Type 0
+Links link at = (node_or_0 at ≡ link) × IfSome at (λ i. 1 ≤ i)

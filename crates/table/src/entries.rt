@@ -2,13 +2,13 @@
 ghost use Rattle.std.specs.Prelude.{◌≡◌, ◌+◌, ◌≤◌, length};
 ghost use Rattle.std.proofs.lemmas.List.Edits.{sets};
 ghost use Rattle.rule.specs.Order.{is_less};
-ghost use Rattle.image.specs.Limits.{max_key, max_value};
-ghost use Rattle.image.specs.Entries.{encode, keyed_at, rest_at, key_in, compare_keyed};
-ghost use Rattle.table.specs.Entries.{entry, EntrySize, Writable, keyed_of, keyed_read, KeyedFits, parts_read, PartsFits};
+ghost use Rattle.image.specs.Entries.{encode, keyed_at, rest_at, key_in, number_in, compare_keyed};
+ghost use Rattle.table.specs.Refusals.{read_as};
+ghost use Rattle.table.specs.Entries.{entry_is, keyed_of, KeyedFits, parts_of, PartsFits};
 
-use crate::key_types::{
-    LenRead, Number, Tag, compare_entries, get_tag, len_at, len_size, put_len, put_tag,
-};
+use crate::key_types::{Kind, LookupKey, Number, Tag, get_tag, len_at, len_size, put_len, put_tag};
+use crate::refusals::Fault;
+use crate::tested::Entry;
 use crate::words::put_bytes;
 
 // The most bytes of a key, and of a value.
@@ -16,28 +16,43 @@ pub const MAX_KEY: usize = 1024;
 
 pub(crate) const MAX_VALUE: usize = 4096;
 
-// How many bytes an entry takes whose key and value have these lengths.
-pub(crate) fn entry_size(key_len: usize, value_len: usize) -> usize
-    requires { (key_len ≤ max_key) × (value_len ≤ max_value) }
-    ensures { EntrySize key_len value_len result }
-{
-    len_size(key_len + 8) + key_len + 8 + len_size(value_len) + value_len
+impl<'a> Entry<'a> {
+    // Its key with its number.
+    pub(crate) fn lookup_key(self) -> LookupKey<'a>
+        ensures key { result.key.now ≡ self.entry.key.now }
+        ensures number { result.number.is ≡ self.entry.number.is }
+    {
+        LookupKey {
+            key: self.key,
+            number: self.number,
+        }
+    }
+
+    // How many bytes it takes.
+    pub(crate) fn size(self) -> usize
+        ensures { result ≡ length (encode (entry_is self.entry)) }
+    {
+        let key_len = self.key.len();
+        let value_len = self.value.len();
+        len_size(key_len + 8) + key_len + 8 + len_size(value_len) + value_len
+    }
+
+    // Writes it at a place: length of key and tag, key, tag, length of value, value.
+    pub(crate) fn put(self, s: &mut [u8], at: usize)
+        requires { at + length (encode (entry_is self)) ≤ length s.old }
+        ensures { s.new ≡ sets s.old at (encode (entry_is self.entry)) }
+    {
+        let key_at = put_len(s, at, self.key.len() + 8);
+        put_bytes(s, key_at, self.key);
+        let tag_at = key_at + self.key.len();
+        put_tag(s, tag_at, Tag::pack(self.number, self.kind));
+        let value_at = put_len(s, tag_at + 8, self.value.len());
+        put_bytes(s, value_at, self.value);
+    }
 }
 
-// Writes an entry at a place: length of key and tag, key, tag, length of value, value.
-pub(crate) fn put_entry(s: &mut [u8], at: usize, key: &[u8], number: u64, kind: u8, value: &[u8])
-    requires { Writable s.old at (entry key.now number kind value.now) }
-    ensures { s.new ≡ sets s.old at (encode (entry key.now number kind value.now)) }
-{
-    let key_at = put_len(s, at, key.len() + 8);
-    put_bytes(s, key_at, key);
-    let tag_at = key_at + key.len();
-    put_tag(s, tag_at, Tag::pack(Number { is: number }, kind));
-    let value_at = put_len(s, tag_at + 8, value.len());
-    put_bytes(s, value_at, value);
-}
-
-// Where the key of an entry stands, its tag, and where its value's length begins.
+// Where the key of an entry stands, its tag, and where its value's length begins. That the key lies in the image is asked where it is
+// used: a value that carried the fact would carry the image too.
 #[derive(Clone, Copy)]
 pub(crate) struct Keyed {
     pub key_at: usize,
@@ -46,114 +61,100 @@ pub(crate) struct Keyed {
     pub rest: usize,
 }
 
-// Key and tag of an entry, or the place of the byte at fault.
-#[derive(Drop)]
-pub(crate) enum KeyedRead {
-    Got(Keyed),
-    Bad(usize),
-}
+impl Keyed {
+    // The key, where it stands.
+    pub(crate) fn key(self, s: &[u8]) -> &[u8]
+        requires { self.key_at + self.key_len ≤ length s.now }
+        ensures { result.now ≡ key_in s.now (keyed_of self) }
+    {
+        &s[self.key_at..self.key_at + self.key_len]
+    }
 
-// Key and tag of the entry at o, which ends before the place end.
-pub(crate) fn keyed_at(s: &[u8], o: usize, end: usize) -> KeyedRead
-    requires { end ≤ length s.now }
-    ensures { (keyed_read result ≡ keyed_at s.now o end) × KeyedFits end result }
-{
-    let len = len_at(s, end, o);
-    match len {
-        LenRead::Bad(fault) => KeyedRead::Bad(fault),
-        LenRead::Got { is, after } => {
-            if is < 8 {
-                return KeyedRead::Bad(o);
-            }
-            if is > MAX_KEY + 8 {
-                return KeyedRead::Bad(o);
-            }
-            let rest = after + is;
-            if rest > end {
-                return KeyedRead::Bad(o);
-            }
-            let key_len = is - 8;
-            let tag = get_tag(s, after + key_len);
-            KeyedRead::Got(Keyed {
-                key_at: after,
-                key_len: key_len,
-                tag: tag,
-                rest: rest,
-            })
+    // The key with the number.
+    pub(crate) fn lookup_key(self, s: &[u8]) -> LookupKey<'_>
+        requires { self.key_at + self.key_len ≤ length s.now }
+        ensures key { result.key.now ≡ key_in s.now (keyed_of self) }
+        ensures number { result.number.is ≡ number_in (keyed_of self) }
+    {
+        LookupKey {
+            key: self.key(s),
+            number: self.tag.number(),
         }
+    }
+
+    // Whether its entry comes before another in the order; the keys are compared where they stand.
+    pub(crate) fn precedes(self, s: &[u8], other: Keyed) -> bool
+        requires mine { self.key_at + self.key_len ≤ length s.now }
+        requires others { other.key_at + other.key_len ≤ length s.now }
+        ensures { result ≡ is_less (compare_keyed s.now (keyed_of self) (keyed_of other)) }
+    {
+        self.lookup_key(s).compare(other.lookup_key(s)).is_lt()
     }
 }
 
-// The key of an entry, where it stands.
-pub(crate) fn key_in(s: &[u8], k: Keyed) -> &[u8]
-    requires { k.key_at + k.key_len ≤ length s.now }
-    ensures { result.now ≡ key_in s.now (keyed_of k) }
+// Key and tag of the entry at o, which ends before the place end. Image and end, and not a shorter slice: what is promised is said of
+// the image, here and of the two other readers that take an end.
+pub(crate) fn keyed_at(s: &[u8], o: usize, end: usize) -> Result<Keyed, Fault>
+    requires { end ≤ length s.now }
+    ensures exact { read_as keyed_of result ≡ keyed_at s.now o end }
+    ensures fits { KeyedFits end result }
 {
-    let at = k.key_at;
-    let end = at + k.key_len;
-    &s[at..end]
+    let len = len_at(s, end, o)?;
+    if len.is < 8 {
+        return Err(Fault { at: o });
+    }
+    if len.is > MAX_KEY + 8 {
+        return Err(Fault { at: o });
+    }
+    let rest = len.after + len.is;
+    if rest > end {
+        return Err(Fault { at: o });
+    }
+    let key_len = len.is - 8;
+    Ok(Keyed {
+        key_at: len.after,
+        key_len,
+        tag: get_tag(s, len.after + key_len),
+        rest,
+    })
 }
 
-// Whether one entry comes before another in the order; their keys are compared where they stand.
-pub(crate) fn entry_less(s: &[u8], a: Keyed, b: Keyed) -> bool
-    requires { (a.key_at + a.key_len ≤ length s.now) × (b.key_at + b.key_len ≤ length s.now) }
-    ensures { result ≡ is_less (compare_keyed s.now (keyed_of a) (keyed_of b)) }
-{
-    let a_tag = a.tag;
-    let b_tag = b.tag;
-    let order = compare_entries(
-        key_in(s, a),
-        a_tag.number().is,
-        key_in(s, b),
-        b_tag.number().is,
-    );
-    order.is_less()
-}
-
-// Where the parts of an entry stand.
-#[derive(Drop)]
+// Where the parts of an entry stand, and its type.
+#[derive(Clone, Copy)]
 pub(crate) struct Parts {
     pub keyed: Keyed,
+    pub kind: Kind,
     pub value_at: usize,
     pub value_len: usize,
 }
 
-// The parts of an entry, or the place of the byte at fault.
-#[derive(Drop)]
-pub(crate) enum PartsRead {
-    Got(Parts),
-    Bad(usize),
-}
-
 // The type and the value of an entry that fills the bytes up to end, after its key and tag were read.
-pub(crate) fn rest_at(s: &[u8], end: usize, k: Keyed) -> PartsRead
-    requires { (end ≤ length s.now) × (k.key_at + k.key_len ≤ end) }
-    ensures { (parts_read result ≡ rest_at s.now end (keyed_of k)) × PartsFits end result }
+pub(crate) fn rest_at(s: &[u8], end: usize, keyed: Keyed) -> Result<Parts, Fault>
+    requires { (end ≤ length s.now) × (keyed.key_at + keyed.key_len ≤ end) }
+    ensures exact { read_as parts_of result ≡ rest_at s.now end (keyed_of keyed) }
+    ensures fits { PartsFits end result }
 {
-    let tag = k.tag;
-    if !Tag::known(tag.kind()) {
-        return PartsRead::Bad(k.key_at + k.key_len);
+    let Ok(kind) = keyed.tag.kind() else {
+        return Err(Fault {
+            at: keyed.key_at + keyed.key_len,
+        });
+    };
+    let fault = Fault { at: keyed.rest };
+    let len = len_at(s, end, keyed.rest)?;
+    if len.is > MAX_VALUE {
+        return Err(fault);
     }
-    let rest = k.rest;
-    let len = len_at(s, end, rest);
-    match len {
-        LenRead::Bad(fault) => PartsRead::Bad(fault),
-        LenRead::Got { is, after } => {
-            if is > MAX_VALUE {
-                return PartsRead::Bad(rest);
-            }
-            let stop = after + is;
-            if stop > end {
-                return PartsRead::Bad(rest);
-            }
-            if stop < end {
-                return PartsRead::Bad(stop);
-            }
-            PartsRead::Got(Parts {
-                keyed: k,
-                value_at: after,
-                value_len: is,
-            })
-        }
+    let stop = len.after + len.is;
+    if stop > end {
+        return Err(fault);
     }
+    if stop < end {
+        return Err(Fault { at: stop });
+    }
+    Ok(Parts {
+        keyed,
+        kind,
+        value_at: len.after,
+        value_len: len.is,
+    })
 }

@@ -3,6 +3,7 @@
 
 pub mod words; // words.rt: the words of an image, and bytes written to it
 pub mod key_types; // key_types.rt: number, tag, lengths and order
+pub mod tested; // tested.rt: values that passed a test
 pub mod entries; // entries.rt: the bytes of an entry
 pub mod insert; // insert.rt: writing to an image
 pub mod nodes; // nodes.rt: header and nodes of an image

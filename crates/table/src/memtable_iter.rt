@@ -2,212 +2,207 @@
 // A cursor is a node number, not a place in memory: in a sound table additions never change what it shows. Nothing here writes.
 ghost use Rattle.std.specs.Prelude.{◌≡◌, ℕ, ◌+◌, ◌≤◌, length};
 ghost use Rattle.image.specs.Refusals.{given, reading};
-ghost use Rattle.image.specs.EntryMoves.{on, cursor_at, first, seek, next, previous, landing_after, moved};
+ghost use Rattle.image.specs.EntryMoves.{on, first, seek, next, previous, nowhere, landing, landing_after, cursor_at, moved, entry_move};
+ghost use Rattle.table.specs.Refusals.{answer_as};
 ghost use Rattle.table.specs.Entries.{keyed_of};
-ghost use Rattle.table.specs.Nodes.{Numbered, InTable};
-ghost use Rattle.table.specs.Neighbours.{neighbour_as, NeighbourIn};
-ghost use Rattle.table.specs.MemtableIter.{cursor_is, Tested, found_as, lands_on, moved_as, HandsBack, MovesEntry};
+ghost use Rattle.table.specs.Neighbours.{NodeIn, node_or_0};
+ghost use Rattle.table.specs.MemtableIter.{cursor_is, node_cursor, HandedOn, OpensAt, Tested, MovesEntry};
 
-use crate::entries::{Keyed, MAX_KEY, entry_less, key_in};
-use crate::key_types::Number;
-use crate::neighbours::{Neighbour, first_node, first_not_passed, last_before};
-use crate::nodes::{Frame, FrameRead, LINKS_AT, NodeRead, node_of, read_frame};
+use crate::entries::Keyed;
+use crate::key_types::LookupKey;
+use crate::nodes::LINKS_AT;
 use crate::refusals::Refusal;
 use crate::skipmap::OnEqual;
-use crate::words::get_word;
+use crate::tested::{Frame, Table};
+use crate::words::get_wide;
 
-// Nowhere, or on a node.
+// Nowhere, or on a node: an enum of its own, as the visible cursor is, since None would not say nowhere.
 #[derive(Clone, Copy)]
 pub enum EntryCursor {
     Nowhere,
     On(usize),
 }
 
-// Where a move leads; a refused move hands back the cursor that it was handed.
-#[derive(Clone, Copy)]
-pub enum EntryMoved {
-    To(EntryCursor),
-    Refused(Refusal, EntryCursor),
+// On a node, or nowhere where there is none.
+impl From<Option<usize>> for EntryCursor {
+    ghost from_gives = { λ at c. cursor_is c ≡ node_cursor at };
+
+    fn from(at: Option<usize>) -> EntryCursor {
+        match at {
+            None => EntryCursor::Nowhere,
+            Some(node) => EntryCursor::On(node),
+        }
+    }
 }
 
-// Whether a cursor may be used on a table, with the frame that was read, or why not.
+// A refused move: why, and the cursor as it was handed.
 #[derive(Clone, Copy)]
-pub enum CursorTest {
-    Passed(Frame),
-    Failed(Refusal),
+pub struct Stays<C> {
+    pub why: Refusal,
+    pub at: C,
 }
 
-// The header is tested, then the cursor: it names a node of the table, or none.
-pub fn test_cursor(s: &[u8], c: EntryCursor) -> CursorTest
+// The answer of a move from a cursor; a refused one hands the cursor back.
+pub fn hand_back<C: Copy>(moved: Result<C, Refusal>, at: C) -> Result<C, Stays<C>>
+    ensures { HandedOn at moved result }
+{
+    moved.map_err(|why| Stays { why, at })
+}
+
+// The table of an image on which a cursor may be used: it names a node of the table, or none. Refusals 1, 10.
+pub(crate) fn open_at(s: &[u8], c: EntryCursor) -> Result<Table<'_>, Refusal>
+    ensures { OpensAt s.now (cursor_is c) result }
+{
+    let table = Table::open(s).ok_or(Refusal::BadImage)?;
+    let EntryCursor::On(node) = c else {
+        return Ok(table);
+    };
+    if node < 1 {
+        return Err(Refusal::NoNode);
+    }
+    if node > table.frame.count {
+        return Err(Refusal::NoNode);
+    }
+    Ok(table)
+}
+
+// Whether a cursor may be used on a table, with the frame that was read. The header is tested, then the cursor. Refusals 1, 10.
+pub fn test_cursor(s: &[u8], c: EntryCursor) -> Result<Frame, Refusal>
     ensures { Tested s.now (cursor_is c) result }
 {
-    let FrameRead::Good(f) = read_frame(s) else {
-        return CursorTest::Failed(Refusal::BadImage);
-    };
-    let EntryCursor::On(node) = c else {
-        return CursorTest::Passed(f);
-    };
-    if node < 1 {
-        return CursorTest::Failed(Refusal::NoNode);
-    }
-    if node > f.count {
-        return CursorTest::Failed(Refusal::NoNode);
-    }
-    CursorTest::Passed(f)
+    let table = open_at(s, c)?;
+    Ok(table.frame)
 }
 
-// Where a cursor may go, or that damage was met.
-#[derive(Drop)]
-pub(crate) enum EntryFound {
-    At(EntryCursor),
-    Damaged,
-}
-
-// The end of a move on a neighbour: nowhere, or on a node that can be read whole.
-pub(crate) fn land(s: &[u8], f: Frame, neighbour: Neighbour) -> EntryFound
-    requires { NeighbourIn s.now f neighbour }
-    ensures { found_as result ≡ lands_on s.now (neighbour_as neighbour) }
-{
-    let Neighbour::Node {
-        node,
-        equal: _,
-        looks: _,
-    } = neighbour
-    else {
-        return EntryFound::Damaged;
-    };
-    if node < 1 {
-        return EntryFound::At(EntryCursor::Nowhere);
-    }
-    let read = node_of(s, f, node);
-    match read {
-        NodeRead::Bad(_) => EntryFound::Damaged,
-        NodeRead::Got(_) => EntryFound::At(EntryCursor::On(node)),
-    }
-}
-
-// The end of a move behind an entry: a node that does not come after it is damage.
-fn land_after(s: &[u8], f: Frame, from: Keyed, node: usize) -> EntryFound
-    requires { InTable s.now f node × (from.key_at + from.key_len ≤ length s.now) }
-    ensures { (o : ℕ) → found_as result ≡ reading (landing_after s.now (keyed_of from) o (cursor_at node)) given }
-{
-    if node < 1 {
-        return EntryFound::At(EntryCursor::Nowhere);
-    }
-    let read = node_of(s, f, node);
-    match read {
-        NodeRead::Bad(_) => EntryFound::Damaged,
-        NodeRead::Got(m) => {
-            let keyed = m.parts.keyed;
-            if !entry_less(s, from, keyed) {
-                return EntryFound::Damaged;
-            }
-            EntryFound::At(EntryCursor::On(node))
+impl<'a> Table<'a> {
+    // The end of a move on a neighbour: nowhere, or on a node that can be read whole.
+    pub(crate) fn land(self, at: Option<usize>) -> Result<Option<usize>, Refusal>
+        requires { NodeIn self.frame.count at }
+        ensures { answer_as node_cursor result ≡ reading (landing self.entry.bytes.now (cursor_at (node_or_0 at))) given }
+    {
+        if let Some(node) = at {
+            self.node_of(node)?;
         }
+        Ok(at)
     }
-}
 
-// The entry after that of a node: where its lowest link leads.
-fn entry_after(s: &[u8], f: Frame, node: usize) -> EntryFound
-    requires { Numbered s.now f node }
-    ensures { found_as result ≡ reading (moved s.now next (on node)) given }
-{
-    let read = node_of(s, f, node);
-    match read {
-        NodeRead::Bad(_) => EntryFound::Damaged,
-        NodeRead::Got(m) => {
-            let after = get_word(s, m.start + LINKS_AT);
-            if after > f.count {
-                return EntryFound::Damaged;
-            }
-            let keyed = m.parts.keyed;
-            land_after(s, f, keyed, after)
+    // The end of a move behind an entry: a node that does not come after it is damage. The link is handed on as it was read, 0 for none.
+    fn land_after(self, from: Keyed, at: usize) -> Result<Option<usize>, Refusal>
+        requires { (at ≤ self.frame.count) × (from.key_at + from.key_len ≤ length self.bytes.now) }
+        ensures { (o : ℕ) → answer_as node_cursor result ≡ reading (landing_after self.entry.bytes.now (keyed_of from) o (cursor_at at)) given }
+    {
+        if at < 1 {
+            return Ok(None);
         }
-    }
-}
-
-// The entry before that of a node.
-fn entry_before(s: &[u8], f: Frame, node: usize) -> EntryFound
-    requires { Numbered s.now f node }
-    ensures { found_as result ≡ reading (moved s.now previous (on node)) given }
-{
-    let read = node_of(s, f, node);
-    match read {
-        NodeRead::Bad(_) => EntryFound::Damaged,
-        NodeRead::Got(m) => {
-            let keyed = m.parts.keyed;
-            let tag = keyed.tag;
-            let before = last_before(s, f, key_in(s, keyed), tag.number().is);
-            land(s, f, before)
+        let parts = self.node_of(at)?.parts;
+        if !from.precedes(self.bytes, parts.keyed) {
+            return Err(Refusal::Damaged);
         }
+        Ok(Some(at))
+    }
+
+    // The entry after that of a node: where its lowest link leads.
+    fn entry_after(self, node: usize) -> Result<Option<usize>, Refusal>
+        requires { (1 ≤ node) × (node ≤ self.frame.count) }
+        ensures { answer_as node_cursor result ≡ reading (moved self.entry.bytes.now next (on node)) given }
+    {
+        let here = self.node_of(node)?;
+        let after = get_wide(self.bytes, here.start + LINKS_AT);
+        if after > self.frame.count {
+            return Err(Refusal::Damaged);
+        }
+        self.land_after(here.parts.keyed, after)
+    }
+
+    // The entry before that of a node. It searches, where entry_after follows a link: they share the reading of the node alone.
+    fn entry_before(self, node: usize) -> Result<Option<usize>, Refusal>
+        requires { (1 ≤ node) × (node ≤ self.frame.count) }
+        ensures { answer_as node_cursor result ≡ reading (moved self.entry.bytes.now previous (on node)) given }
+    {
+        let here = self.node_of(node)?;
+        let before = self.last_before(here.parts.keyed.lookup_key(self.bytes))?;
+        self.land(before.node)
+    }
+
+    // The first entry.
+    fn entry_first(self) -> Result<Option<usize>, Refusal>
+        ensures { answer_as node_cursor result ≡ reading (moved self.entry.bytes.now first nowhere) given }
+    {
+        let first = self.first_node()?;
+        self.land(first.node)
     }
 }
 
-// What a move answers: where it leads, or damage with the cursor as it was handed.
-fn end_move(found: EntryFound, c: EntryCursor) -> EntryMoved
-    ensures { (moved_as result ≡ found_as found) × HandsBack c result }
+// The moves, before a refused one hands back the cursor. Image and cursor stand side by side, as in C's calls.
+fn to_first(s: &[u8], c: EntryCursor) -> Result<EntryCursor, Refusal>
+    ensures { answer_as cursor_is result ≡ entry_move s.now first (cursor_is c) }
 {
-    match found {
-        EntryFound::At(d) => EntryMoved::To(d),
-        EntryFound::Damaged => EntryMoved::Refused(Refusal::Damaged, c),
-    }
+    let table = open_at(s, c)?;
+    let to = table.entry_first()?;
+    Ok(EntryCursor::from(to))
+}
+
+fn to_sought(s: &[u8], c: EntryCursor, key: &[u8], number: u64) -> Result<EntryCursor, Refusal>
+    ensures { answer_as cursor_is result ≡ entry_move s.now (seek key.now number) (cursor_is c) }
+{
+    let table = open_at(s, c)?;
+    let probe = LookupKey::of(key, number)?;
+    let stands = table.first_not_passed(OnEqual::Stop, probe)?;
+    let to = table.land(stands.node)?;
+    Ok(EntryCursor::from(to))
+}
+
+fn to_next(s: &[u8], c: EntryCursor) -> Result<EntryCursor, Refusal>
+    ensures { answer_as cursor_is result ≡ entry_move s.now next (cursor_is c) }
+{
+    let table = open_at(s, c)?;
+    let to = match c {
+        EntryCursor::Nowhere => table.entry_first()?,
+        EntryCursor::On(node) => table.entry_after(node)?,
+    };
+    Ok(EntryCursor::from(to))
+}
+
+fn to_previous(s: &[u8], c: EntryCursor) -> Result<EntryCursor, Refusal>
+    ensures { answer_as cursor_is result ≡ entry_move s.now previous (cursor_is c) }
+{
+    let table = open_at(s, c)?;
+    let to = match c {
+        EntryCursor::Nowhere => None,
+        EntryCursor::On(node) => table.entry_before(node)?,
+    };
+    Ok(EntryCursor::from(to))
 }
 
 // The first entry. Refusals 1, 10, 9.
-pub fn entry_first(s: &[u8], c: EntryCursor) -> EntryMoved
+pub fn entry_first(s: &[u8], c: EntryCursor) -> Result<EntryCursor, Stays<EntryCursor>>
     ensures { MovesEntry s.now first c result }
 {
-    let test = test_cursor(s, c);
-    match test {
-        CursorTest::Failed(q) => EntryMoved::Refused(q, c),
-        CursorTest::Passed(f) => end_move(land(s, f, first_node(s, f)), c),
-    }
+    hand_back(to_first(s, c), c)
 }
 
 // The first entry at or after a key and a number in the order. Refusals 1, 10, 3, 4, 9.
-pub fn entry_seek(s: &[u8], c: EntryCursor, key: &[u8], number: u64) -> EntryMoved
+pub fn entry_seek(
+    s: &[u8],
+    c: EntryCursor,
+    key: &[u8],
+    number: u64,
+) -> Result<EntryCursor, Stays<EntryCursor>>
     ensures { MovesEntry s.now (seek key.now number) c result }
 {
-    let test = test_cursor(s, c);
-    match test {
-        CursorTest::Failed(q) => EntryMoved::Refused(q, c),
-        CursorTest::Passed(f) => {
-            if !Number::fits(number) {
-                return EntryMoved::Refused(Refusal::BadNumber, c);
-            }
-            if key.len() > MAX_KEY {
-                return EntryMoved::Refused(Refusal::LongKey, c);
-            }
-            let stands = first_not_passed(s, f, OnEqual::Stop, key, number);
-            end_move(land(s, f, stands), c)
-        }
-    }
+    hand_back(to_sought(s, c, key, number), c)
 }
 
 // The next entry; from nowhere the first, from the last nowhere. Refusals 1, 10, 9.
-pub fn entry_next(s: &[u8], c: EntryCursor) -> EntryMoved
+pub fn entry_next(s: &[u8], c: EntryCursor) -> Result<EntryCursor, Stays<EntryCursor>>
     ensures { MovesEntry s.now next c result }
 {
-    let test = test_cursor(s, c);
-    match test {
-        CursorTest::Failed(q) => EntryMoved::Refused(q, c),
-        CursorTest::Passed(f) => match c {
-            EntryCursor::Nowhere => end_move(land(s, f, first_node(s, f)), c),
-            EntryCursor::On(node) => end_move(entry_after(s, f, node), c),
-        },
-    }
+    hand_back(to_next(s, c), c)
 }
 
 // The entry before; from nowhere and from the first nowhere. Refusals 1, 10, 9.
-pub fn entry_prev(s: &[u8], c: EntryCursor) -> EntryMoved
+pub fn entry_prev(s: &[u8], c: EntryCursor) -> Result<EntryCursor, Stays<EntryCursor>>
     ensures { MovesEntry s.now previous c result }
 {
-    let test = test_cursor(s, c);
-    match test {
-        CursorTest::Failed(q) => EntryMoved::Refused(q, c),
-        CursorTest::Passed(f) => match c {
-            EntryCursor::Nowhere => EntryMoved::To(EntryCursor::Nowhere),
-            EntryCursor::On(node) => end_move(entry_before(s, f, node), c),
-        },
-    }
+    hand_back(to_previous(s, c), c)
 }

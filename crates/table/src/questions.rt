@@ -3,22 +3,18 @@
 // None of it asks anything of its caller: a bad header is damage, like any other fault that is met. Nothing here writes.
 ghost use Rattle.std.specs.Prelude.{◌≡◌};
 ghost use Rattle.rule.specs.Order.{compare_keys, is_less};
-ghost use Rattle.image.specs.Refusals.{given};
 ghost use Rattle.image.specs.Cuts.{cmp_of, past_of};
-ghost use Rattle.image.specs.Newest.{with_node};
-ghost use Rattle.table.specs.Memtable.{said_as, and_then};
-ghost use Rattle.table.specs.MemtableIter.{found_as};
-ghost use Rattle.table.specs.Nodes.{Framed};
-ghost use Rattle.table.specs.Questions.{nodes_of, cut_of, Behind, hit_as, Nears, newest_as, TellsNewest};
+ghost use Rattle.table.specs.Questions.{nodes_of, cut_of, Behind, Nears, TellsNewest};
 
-use crate::key_types::{Number, compare_keys};
-use crate::memtable::{Said, said_at};
-use crate::memtable_iter::{EntryCursor, EntryFound, land};
-use crate::neighbours::{Neighbour, first_node, first_not_passed, last_before};
-use crate::nodes::{Frame, FrameRead, read_frame};
+use crate::key_types::{LookupKey, Number, compare_keys};
+use crate::memtable::Newest;
+use crate::neighbours::Neighbour;
+use crate::refusals::{Damage, Refusal};
 use crate::skipmap::OnEqual;
+use crate::tested::Table;
 
-// A cut at a key: upward every key, the keys from it on or those above it; downward the keys below it.
+// A cut at a key: upward every key, the keys from it on or those above it; downward the keys below it. It is data that a walk carries and
+// changes, and each question answers it in an arm of one line; a closure for each cut would carry its order and laws along.
 #[derive(Clone, Copy)]
 pub enum Cut {
     All,
@@ -32,28 +28,9 @@ pub fn past(cut: Cut) -> Cut
     ensures { cut_of result ≡ past_of (cut_of cut) }
 {
     match cut {
-        Cut::All => Cut::Above,
-        Cut::From => Cut::Above,
-        Cut::Above => Cut::Above,
+        Cut::All | Cut::From | Cut::Above => Cut::Above,
         Cut::Below => Cut::Below,
     }
-}
-
-// How many nodes the table has; none if its header does not hold.
-pub fn population(s: &[u8]) -> usize
-    ensures { result ≡ nodes_of s.now }
-{
-    match read_frame(s) {
-        FrameRead::Good(f) => f.count,
-        FrameRead::Bad => 0,
-    }
-}
-
-// Whether the key a is less than the key b.
-fn less(a: &[u8], b: &[u8]) -> bool
-    ensures { result ≡ is_less (compare_keys a.now b.now) }
-{
-    compare_keys(a, b).is_less()
 }
 
 // Whether the key a comes before the key b on the way of a cut.
@@ -61,93 +38,65 @@ pub fn before(cut: Cut, a: &[u8], b: &[u8]) -> bool
     ensures { result ≡ is_less (cmp_of (cut_of cut) a.now b.now) }
 {
     match cut {
-        Cut::All => less(a, b),
-        Cut::From => less(a, b),
-        Cut::Above => less(a, b),
-        Cut::Below => less(b, a),
+        Cut::All | Cut::From | Cut::Above => compare_keys(a, b).is_lt(),
+        Cut::Below => compare_keys(b, a).is_lt(),
     }
 }
 
-// The node that answers, or that there is none.
-#[derive(Clone, Copy)]
-pub enum Hit {
-    At(usize),
-    Nothing,
-    Damaged,
-}
-
-// A cursor as an answer.
-fn hit_at(found: EntryFound) -> Hit
-    ensures { hit_as result ≡ found_as found }
+// How many nodes the table has; none if its header does not hold, so that a walk counts down from it.
+pub fn population(s: &[u8]) -> usize
+    ensures { result ≡ nodes_of s.now }
 {
-    let EntryFound::At(c) = found else {
-        return Hit::Damaged;
-    };
-    match c {
-        EntryCursor::Nowhere => Hit::Nothing,
-        EntryCursor::On(node) => Hit::At(node),
+    match Table::open(s) {
+        Some(table) => table.frame.count,
+        None => 0,
     }
 }
 
-// The neighbour behind a cut: upward the first node that a search does not pass, downward the last that it passes.
-fn behind(s: &[u8], f: Frame, cut: Cut, key: &[u8]) -> Neighbour
-    requires { Framed s.now f }
-    ensures { Behind s.now f (cut_of cut) key.now result }
-{
-    match cut {
-        Cut::All => first_node(s, f),
-        Cut::From => first_not_passed(s, f, OnEqual::Stop, key, Number::MAX),
-        Cut::Above => first_not_passed(s, f, OnEqual::Pass, key, 0),
-        Cut::Below => last_before(s, f, key, Number::MAX),
+impl<'a> Table<'a> {
+    // The neighbour behind a cut: upward the first node that a search does not pass, downward the last that it passes.
+    fn behind(self, cut: Cut, key: &[u8]) -> Result<Neighbour, Refusal>
+        ensures { Behind self.entry.bytes.now (cut_of cut) key.now result }
+    {
+        let newest = LookupKey {
+            key,
+            number: Number { is: Number::MAX },
+        };
+        let oldest = LookupKey {
+            key,
+            number: Number { is: 0 },
+        };
+        match cut {
+            Cut::All => self.first_node(),
+            Cut::From => self.first_not_passed(OnEqual::Stop, newest),
+            Cut::Above => self.first_not_passed(OnEqual::Pass, oldest),
+            Cut::Below => self.last_before(newest),
+        }
     }
 }
 
-// A node with the key that comes next behind a cut. It can be read whole.
-pub fn near(s: &[u8], cut: Cut, key: &[u8]) -> Hit
+// A node with the key that comes next behind a cut, if there is one. It can be read whole.
+pub fn near(s: &[u8], cut: Cut, key: &[u8]) -> Result<Option<usize>, Damage>
     ensures { Nears s.now (cut_of cut) key.now result }
 {
-    let FrameRead::Good(f) = read_frame(s) else {
-        return Hit::Damaged;
+    let table = Table::open(s).ok_or(Damage)?;
+    let Ok(neighbour) = table.behind(cut, key) else {
+        return Err(Damage);
     };
-    hit_at(land(s, f, behind(s, f, cut, key)))
+    table.land(neighbour.node).map_err(|_| Damage)
 }
 
-// The newest entry of a key: the node of a value, the node of a deletion, or that there is none.
-#[derive(Clone, Copy)]
-pub enum NewestAt {
-    Value(usize),
-    Deletion(usize),
-    Absent,
-    Damaged,
-}
-
-// What a node says of a key, with the node.
-fn with_node(said: Said, node: usize) -> NewestAt
-    ensures { newest_as result ≡ and_then (said_as node said) (λ a. given (with_node node a)) }
-{
-    match said {
-        Said::Value => NewestAt::Value(node),
-        Said::Deletion => NewestAt::Deletion(node),
-        Said::Absent => NewestAt::Absent,
-        Said::Damaged => NewestAt::Damaged,
-    }
-}
-
-// The newest entry of a key up to a number.
-pub fn newest(s: &[u8], key: &[u8], number: u64) -> NewestAt
+// The newest entry of a key up to a number, if there is one.
+pub fn newest(s: &[u8], key: &[u8], number: u64) -> Result<Option<Newest>, Damage>
     ensures { TellsNewest s.now key.now number result }
 {
-    let FrameRead::Good(f) = read_frame(s) else {
-        return NewestAt::Damaged;
+    let table = Table::open(s).ok_or(Damage)?;
+    let probe = LookupKey {
+        key,
+        number: Number { is: number },
     };
-    let stands = first_not_passed(s, f, OnEqual::Stop, key, number);
-    let Neighbour::Node {
-        node,
-        equal: _,
-        looks: _,
-    } = stands
-    else {
-        return NewestAt::Damaged;
+    let Ok(stands) = table.first_not_passed(OnEqual::Stop, probe) else {
+        return Err(Damage);
     };
-    with_node(said_at(s, f, key, node), node)
+    table.said_at(key, stands.node).map_err(|_| Damage)
 }

@@ -1,9 +1,13 @@
-// Why a call is refused.
+// Why a call is refused, and where a byte is at fault.
 ghost use Rattle.std.specs.Prelude.{◌≡◌};
 ghost use Rattle.image.specs.Refusals.{number_of};
 ghost use Rattle.table.specs.Refusals.{refusal_is};
+ghost use Rattle.table.specs.declared.refusals.Refusal.TheVariants.{Damaged};
 
-#[derive(Clone, Copy)]
+use std::error::Error;
+use std::fmt;
+
+#[derive(Clone, Copy, Debug, PartialEq, Eq)]
 pub enum Refusal {
     // Slice length or header field out of its limits.
     BadImage,
@@ -32,17 +36,52 @@ impl Refusal {
     pub fn number(self) -> u32
         ensures { result ≡ number_of (refusal_is self) }
     {
-        match self {
-            Refusal::BadImage => 1,
-            Refusal::BadKind => 2,
-            Refusal::BadNumber => 3,
-            Refusal::LongKey => 4,
-            Refusal::LongValue => 5,
-            Refusal::BadHeight => 6,
-            Refusal::NoRoom => 7,
-            Refusal::Duplicate => 8,
-            Refusal::Damaged => 9,
-            Refusal::NoNode => 10,
-        }
+        self as u32 + 1
+    }
+}
+
+impl fmt::Display for Refusal {
+    fn fmt<W: fmt::Write>(&self, f: &mut fmt::Formatter<W>) -> fmt::Result {
+        f.write_str(match self {
+            Refusal::BadImage => "no image",
+            Refusal::BadKind => "type above 1",
+            Refusal::BadNumber => "number above the limit",
+            Refusal::LongKey => "key too long",
+            Refusal::LongValue => "value too long",
+            Refusal::BadHeight => "height not 1 to 12",
+            Refusal::NoRoom => "no room",
+            Refusal::Duplicate => "key and number are there",
+            Refusal::Damaged => "damage was met",
+            Refusal::NoNode => "no node of the table",
+        })
+    }
+}
+
+impl Error for Refusal {}
+
+// Damage was met, and nothing else can refuse the question.
+#[derive(Clone, Copy, Debug, PartialEq, Eq)]
+pub struct Damage;
+
+impl From<Damage> for Refusal {
+    ghost from_gives = { λ _ q. q ≡ Damaged };
+
+    fn from(_damage: Damage) -> Refusal {
+        Refusal::Damaged
+    }
+}
+
+// The place of a byte at fault.
+#[derive(Clone, Copy)]
+pub(crate) struct Fault {
+    pub at: usize,
+}
+
+// A call that meets a byte at fault is refused for damage.
+impl From<Fault> for Refusal {
+    ghost from_gives = { λ _ q. q ≡ Damaged };
+
+    fn from(_fault: Fault) -> Refusal {
+        Refusal::Damaged
     }
 }

@@ -1,9 +1,7 @@
--- `insert::has_room`: the count first, then the bytes.
-use Rattle.table.proofs.InsertLaws.{room_none, room_test}
+use native.Mathlib.Omega.{arith}
+use Rattle.table.specs.Entries.{entry_is}
+use Rattle.table.proofs.InsertLaws.{encode_most}
 use Rattle.table.proofs.insert.has_room.Goals as goal
 
-pub returns-then-f-ge-MAX_NODES : goal.returns-then-f-ge-MAX_NODES
-returns-then-f-ge-MAX_NODES c = room_none _ _ _ _ _ c.if-f-ge-MAX_NODES.true
-
-pub returns : goal.returns
-returns c = room_test _ _ _ _ _ _ c.if-f-ge-MAX_NODES.false c.entry_size.ensures.is
+pub overflow_add-need-2 : goal.overflow_add-need-2
+overflow_add-need-2 c = record { fits = omega (arith, c.requires.height_most, c.size.ensures, encode_most (entry_is c.args.entry) c.args.entry.legal) }

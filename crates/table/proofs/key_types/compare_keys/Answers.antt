@@ -1,29 +1,19 @@
--- `key_types::compare_keys`: what is left to compare after i bytes decides.
-use borrow.Author.Rules.{rules}
-use mathlib.Core.Path.{sym, ◌∙◌}
-use Rattle.table.proofs.KeyTypesLaws.{left_front, both_ended, first_ended, second_ended, less_byte, greater_byte, same_byte}
+-- `key_types::compare_keys`: the first byte behind the common front that differs decides, or the lengths.
+use Rattle.std.proofs.Common.{sym, ◌∙◌, arith}
+use Rattle.table.proofs.KeyTypesLaws.{left_at, left_more, byte_decides, lengths_decide}
 use Rattle.table.proofs.key_types.compare_keys.Goals as goal
 
 pub loop-i-init : goal.loop-i-init
-loop-i-init c = (c.common_front-i.ensures.first, c.common_front-i.ensures.second, left_front _ _ _ c.common_front-i.ensures)
-
-pub returns-then-i-b : goal.returns-then-i-b
-returns-then-i-b c = second_ended _ _ _ c.loop-i-test.true c.if-i-b.true ∙ sym c.loop-i.invariant.2
+loop-i-init c = left_at _ _ c.common_front-front.ensures
 
 pub returns-then-x-y : goal.returns-then-x-y
-returns-then-x-y c =
-    less_byte _ _ _ c.loop-i-test.true c.if-i-b.false c.if-x-y.true ∙ sym c.loop-i.invariant.2
-
-pub returns-then-y-x : goal.returns-then-y-x
-returns-then-y-x c =
-    greater_byte _ _ _ c.loop-i-test.true c.if-i-b.false c.if-x-y.false c.if-y-x.true ∙ sym c.loop-i.invariant.2
+returns-then-x-y c = byte_decides c.args.a.now c.args.b.now c.loop-i.i (omega arith) (omega arith) c.if-x-y.true c.cmp.ensures ∙ sym c.loop-i.invariant
 
 pub loop-i-preserved : goal.loop-i-preserved
-loop-i-preserved c =
-    (search rules, search rules, c.loop-i.invariant.2 ∙ same_byte _ _ _ c.loop-i-test.true c.if-i-b.false c.if-x-y.false c.if-y-x.false)
-
-pub returns-then-i-b-2 : goal.returns-then-i-b-2
-returns-then-i-b-2 c = both_ended _ _ _ c.loop-i-test.false c.if-i-b-2.true ∙ sym c.loop-i.invariant.2
+loop-i-preserved c = left_more c.args.a.now c.args.b.now c.loop-i.i (omega arith) (omega arith) c.if-x-y.false c.loop-i.invariant
 
 pub returns : goal.returns
-returns c = first_ended _ _ _ c.loop-i-test.false c.if-i-b-2.false ∙ sym c.loop-i.invariant.2
+returns c =
+    let f = c.common_front-front.ensures in
+    let inside = c.loop-i.auto.i-end (omega (arith, c.min-both.ensures, f.first, f.second)) in
+    lengths_decide c.args.a.now c.args.b.now c.loop-i.i (omega (arith, inside, c.min-both.ensures)) (omega arith) c.cmp-2.ensures ∙ sym c.loop-i.invariant

@@ -1,5 +1,5 @@
 -- `words::get_u64`: two words are eight bytes.
-use native.Mathlib.Omega.{arith}
+use Rattle.std.proofs.Common.{arith}
 use Rattle.image.proofs.Words.{fixed_eight}
 use Rattle.table.proofs.words.get_u64.Goals as goal
 

@@ -1,15 +1,7 @@
--- `words::put_bytes`: after i turns the first i bytes are written.
-use mathlib.Core.Path.{refl}
-use native.Mathlib.Omega.{arith}
-use lib.ListN.{length-set}
-use Rattle.table.proofs.WordsLaws.{copied_next, copied_all}
+-- `words::put_bytes`: what was copied stands at the place.
+use Rattle.std.proofs.Common.{arith}
+use Rattle.table.proofs.WordsLaws.{pasted}
 use Rattle.table.proofs.words.put_bytes.Goals as goal
 
-pub loop-i-init : goal.loop-i-init
-loop-i-init c = (omega arith, refl, refl)
-
-pub loop-i-preserved : goal.loop-i-preserved
-loop-i-preserved c = (omega arith, simp length-set (omega arith), copied_next _ _ _ _ _ c.loop-i.invariant.2 c.loop-i-test.true)
-
 pub returns : goal.returns
-returns c = copied_all _ _ _ _ _ c.loop-i.invariant.2 c.loop-i-test.false
+returns c = rw c.copy_from_slice.ensures.after (pasted c.args.s.now c.args.b.now c.args.at _ (omega arith) c.requires)

@@ -1,18 +1,8 @@
--- `words::put_word`: four stores are the word written.
-use mathlib.Core.Path.{sym}
-use native.Mathlib.Omega.{arith}
-use lib.ListN.{length-set}
-use Rattle.image.proofs.Words.{put_word_stores}
+-- `words::put_word`: the four bytes of the low half are those of the word.
+use Rattle.std.proofs.Common.{◌∙◌, ap}
+use Rattle.std.proofs.lemmas.List.Edits.{sets}
+use Rattle.table.proofs.WordsLaws.{word_pasted}
 use Rattle.table.proofs.words.put_word.Goals as goal
 
-pub bounds-s-o-2 : goal.bounds-s-o-2
-bounds-s-o-2 c = simp length-set (omega arith)
-
-pub bounds-s-o-3 : goal.bounds-s-o-3
-bounds-s-o-3 c = simp length-set (omega arith)
-
-pub bounds-s-o-4 : goal.bounds-s-o-4
-bounds-s-o-4 c = simp length-set (omega arith)
-
 pub returns : goal.returns
-returns c = sym (put_word_stores c.args.s.now c.args.o c.args.v)
+returns c = c.put_bytes.ensures ∙ ap (sets c.args.s.now c.args.o) c.to_le_bytes.ensures ∙ word_pasted c.args.s.now c.args.o c.args.v

@@ -1,0 +1,5 @@
+use Rattle.cursor.proofs.Moves.{move_prev}
+use Rattle.cursor.proofs.places.Pair.to_previous.Goals as goal
+
+pub returns-in-On : goal.returns-in-On
+returns-in-On c = move_prev c.args.self.first.now c.args.self.second.now c.args.snapshot c.args.at c.in_ok-test_move.ensures c.in-On.is c.go_from.result c.go_from.ensures
