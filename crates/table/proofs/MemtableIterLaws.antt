@@ -23,7 +23,7 @@ use Rattle.image.proofs.Landing.{move_lands}
 use Rattle.table.specs.KeyTypes.{LooksFor}
 use Rattle.table.specs.Framed.{Framed}
 use Rattle.table.specs.Refusals.{refusal_is, answer_as}
-use Rattle.table.specs.MemtableIter.{cursor_is, OpensAt, moved_as, HandedOn, MovesEntry}
+use Rattle.table.specs.MemtableIter.{cursor_is, Tested, OpensAt, moved_as, HandedOn, MovesEntry}
 use Rattle.table.proofs.NodesLaws.{framed_holds, node_links, node_link_inside}
 use Rattle.table.specs.declared.tested.Frame.{Frame}
 use Rattle.table.specs.declared.tested.Table.{Table}
@@ -31,20 +31,27 @@ use Rattle.table.specs.declared.key_types.LookupKey.{LookupKey}
 use Rattle.table.specs.declared.refusals.Refusal.{Refusal}
 use Rattle.table.specs.declared.refusals.Refusal.TheVariants as refusal
 use Rattle.table.specs.declared.memtable_iter.EntryCursor.{EntryCursor}
-use Rattle.table.specs.declared.memtable_iter.EntryCursor.TheVariants.{On}
+use Rattle.table.specs.declared.memtable_iter.EntryCursor.TheVariants.{Nowhere, On}
 use Rattle.table.specs.declared.memtable_iter.Stays.{Stays}
 
 -- ---- the test of header and cursor
 
--- a cursor on no node of the table
 module _ (xs : List ℕ) (t : Table) (same : t.bytes.now ≡ xs) where
   holds : header_holds xs ≡ true
   holds = rw same at (framed_holds t.bytes.now t.framed)
 
-  pub test_zero : {c : EntryCursor} {i : ℕ} → c ≡ On i → i < 1 → OpensAt xs (cursor_is c) (Err refusal.NoNode)
+  -- a cursor that may be used
+  pub test_nowhere : {c : EntryCursor} → c ≡ Nowhere → Tested xs (cursor_is c) (Ok t.frame)
+  test_nowhere e = rw e (holds, refl, rw same at t.framed)
+
+  pub test_node : {c : EntryCursor} {i : ℕ} → c ≡ On i → 1 ≤ i → i ≤ t.frame.count → Tested xs (cursor_is c) (Ok t.frame)
+  test_node {i = i} e some h = rw e (holds, rw (le-leb 1 i some) (le-leb i (count xs) (omega (arith, t.framed.count_is, ap count same))), rw same at t.framed)
+
+  -- a cursor on no node of the table
+  pub test_zero : {c : EntryCursor} {i : ℕ} → c ≡ On i → i < 1 → Tested xs (cursor_is c) (Err refusal.NoNode)
   test_zero {i = i} e h = inr (holds, rw (e, lt-leb 1 i h), refl)
 
-  pub test_above : {c : EntryCursor} {i : ℕ} → c ≡ On i → 1 ≤ i → t.frame.count < i → OpensAt xs (cursor_is c) (Err refusal.NoNode)
+  pub test_above : {c : EntryCursor} {i : ℕ} → c ≡ On i → 1 ≤ i → t.frame.count < i → Tested xs (cursor_is c) (Err refusal.NoNode)
   test_above {i = i} e some h = inr (holds, rw (e, le-leb 1 i some, lt-leb i (count xs) (omega (arith, t.framed.count_is, ap count same))), refl)
 
 -- a test that failed refuses whatever comes behind it

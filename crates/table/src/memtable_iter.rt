@@ -49,13 +49,14 @@ pub fn hand_back<C: Copy>(moved: Result<C, Refusal>, at: C) -> Result<C, Stays<C
     moved.map_err(|why| Stays { why, at })
 }
 
-// The table of an image on which a cursor may be used: it names a node of the table, or none. Refusals 1, 10.
-pub(crate) fn open_at(s: &[u8], c: EntryCursor) -> Result<Table<'_>, Refusal>
-    ensures { OpensAt s.now (cursor_is c) result }
+// Whether a cursor may be used on a table, with the frame that was read. The header is tested, then the cursor: it names a node of the
+// table, or none. Refusals 1, 10.
+pub fn test_cursor(s: &[u8], c: EntryCursor) -> Result<Frame, Refusal>
+    ensures { Tested s.now (cursor_is c) result }
 {
     let table = Table::open(s).ok_or(Refusal::BadImage)?;
     let EntryCursor::On(node) = c else {
-        return Ok(table);
+        return Ok(table.frame);
     };
     if node < 1 {
         return Err(Refusal::NoNode);
@@ -63,15 +64,15 @@ pub(crate) fn open_at(s: &[u8], c: EntryCursor) -> Result<Table<'_>, Refusal>
     if node > table.frame.count {
         return Err(Refusal::NoNode);
     }
-    Ok(table)
+    Ok(table.frame)
 }
 
-// Whether a cursor may be used on a table, with the frame that was read. The header is tested, then the cursor. Refusals 1, 10.
-pub fn test_cursor(s: &[u8], c: EntryCursor) -> Result<Frame, Refusal>
-    ensures { Tested s.now (cursor_is c) result }
+// The table of an image on which a cursor may be used. Refusals 1, 10.
+pub(crate) fn open_at(s: &[u8], c: EntryCursor) -> Result<Table<'_>, Refusal>
+    ensures { OpensAt s.now (cursor_is c) result }
 {
-    let table = open_at(s, c)?;
-    Ok(table.frame)
+    let frame = test_cursor(s, c)?;
+    Ok(Table { bytes: s, frame })
 }
 
 impl<'a> Table<'a> {
