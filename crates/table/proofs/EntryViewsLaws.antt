@@ -10,7 +10,7 @@ use Rattle.image.specs.Readers.{got, bad}
 use Rattle.image.specs.Entries.{Parts as PartsIs}
 use Rattle.image.specs.Nodes.{node_at}
 use Rattle.image.specs.Refusals.{refusal_of, Answer, refused, given, reading}
-use Rattle.image.specs.EntryMoves.{Cursor, nowhere, on, parts_on, empty_span, view, key_span, value_span, key_view, value_view, view_refusal}
+use Rattle.image.specs.EntryMoves.{Cursor, nowhere, on, parts_on, Span, empty_span, view, viewed, key_span, value_span, key_view, value_view, view_refusal}
 use Rattle.table.specs.KeyTypes.{code_of}
 use Rattle.table.specs.Nodes.{node_is}
 use Rattle.table.specs.Refusals.{refusal_is}
@@ -59,6 +59,10 @@ module _ (xs : List ℕ) {c : EntryCursor} (t : Table) (tested : OpensAt xs (cur
     parts_got n e k = let (a, b) = rw tested.0 at (parts_inside t.bytes.now i t.framed.header e) in record { exact = on_node (rw (← e)); lie = record { key = a; value = b; kind = k } }
 
 -- ---- what stands there
+
+-- the part at this offset and length is what the view shows
+pub span_shows : {xs : List ℕ} {v : Answer Span} {r : Result SpanHere Refusal} → Spans xs v r → viewed xs (span_as r) ≡ viewed xs v
+span_shows {xs} s = ap (viewed xs) s.exact
 
 -- a view is refused as its companion says
 pub same_refusal {ℓ} : {A : Type ℓ} (show : PartsIs → A) (empty : A) (a : Answer (Maybe PartsIs)) → refusal_of (view show empty a) ≡ refusal_of a

@@ -128,7 +128,7 @@ entry_put_in xs n used size e places links x0 x1 x2 x3 x4 fits s wide read e0 e1
         ∙ sym (node_behind (take used x0) (drop used x0) h e (λ l. get_or kept l 0)) ∙ rw (front, take-append-drop used x0, start)
         (node_links (put_word xs 8 (used + size_of h e)) used h e (λ l. get_or kept l 0) (λ l. word xs (get_or places l 0)) linked)
 
--- ---- an entry takes at most 5,132 bytes
+-- ---- an entry takes at most twelve bytes more than its key and its value
 
 -- no length of an entry has more than two groups
 short_varint : (n : ℕ) → length (varint n) ≤ 2
@@ -139,9 +139,8 @@ short_varint n = go (ltb n 128)
     go false = omega arith
 
 -- so it is two lengths, a key, a tag and a value
-pub encode_most : (e : Entry) → Legal e → length (encode e) ≤ 5132
-encode_most e legal =
-    omega (arith, length_encode 0 e, short_varint (length e.key + 8), short_varint (length e.value), legal.key_short, legal.value_short)
+pub encode_most : (e : Entry) → length (encode e) ≤ length e.key + length e.value + 12
+encode_most e = omega (arith, length_encode 0 e, short_varint (length e.key + 8), short_varint (length e.value))
 
 -- ---- the way out of an insertion that puts the entry in
 

@@ -24,10 +24,11 @@ use Rattle.image.specs.EntryMoves.{on, in_table, number_view}
 use Rattle.image.specs.Meaning.{IsNode}
 use Rattle.image.specs.Cuts.{Cut, all, from, above, below, cmp_of, admits, past_of}
 use Rattle.image.proofs.Lookup.{get_given}
-use Rattle.image.proofs.Sound.{everywhere}
+use Rattle.image.proofs.Sound.{header_complete, everywhere}
 use Rattle.image.proofs.Held.{held_has}
 use Rattle.image.proofs.Views.{number_shown}
 use Rattle.table.specs.EntryViews.{shown_number}
+use Rattle.table.specs.Questions.{nodes_of}
 
 -- ---- the nodes of a table
 
@@ -46,6 +47,10 @@ held_length xs = go (count xs)
     go : (n : ℕ) → length (held_up_to xs n) ≡ n
     go zero = refl
     go (suc n) = length-append (held_up_to xs n) (entry_of xs (suc n) ∷ []) ∙ (let e = go n in omega (arith, e))
+
+-- and that many are told of a sound image
+pub nodes_sound : (xs : List ℕ) → Sound xs → nodes_of xs ≡ count xs
+nodes_sound xs s = rw (header_complete xs s.header)
 
 -- members of a list between whose members R holds
 between {ℓ κ} : {A : Type ℓ} (R : A → A → Type κ) (xs : List A) → Pairwise R xs → (x y : A) → Memᴰ x xs → Memᴰ y xs → (x ≡ y) ⊎ (R x y ⊎ R y x)

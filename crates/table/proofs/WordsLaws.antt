@@ -1,14 +1,15 @@
 -- Words as code writes them.
-use Rattle.std.proofs.Common.{ℕ, ◌+◌, ◌/◌, ◌%◌, ◌≤◌, ◌≡◌, sym, ap, arith, List, length, bit_and, append_assoc, take, drop, drop-drop, w32}
+use Rattle.std.proofs.Common.{ℕ, ◌+◌, ◌/◌, ◌%◌, ◌<◌, ◌≡◌, ap, arith, List, length, bit_and, take, w32}
+use lib.ListN.{get_or, set}
 use Rattle.std.specs.Int.{to_le_bytes}
 use Rattle.std.proofs.lemmas.Nat.{and_mask}
-use Rattle.std.proofs.lemmas.List.Edits.{sets, sets-eq}
-use borrow.Rule.Slice.PartMut.{put_mid}
+use Rattle.std.proofs.lemmas.List.Edits.{sets}
 use Rattle.image.specs.Words.{bytes, put_word}
+use Rattle.image.proofs.Words.{sets_next}
 
--- bytes copied to a place are bytes written there
-pub pasted : (xs ys : List ℕ) (at n : ℕ) → n ≡ length ys → at + length ys ≤ length xs → put_mid at n xs ys ≡ sets xs at ys
-pasted xs ys at n e h = rw (sets-eq ys xs at h, e, drop-drop (length ys) at xs) (sym (append_assoc (take at xs) ys (drop (at + length ys) xs)))
+-- after i bytes of bs one more is written
+pub copied_next : (xs : List ℕ) (at : ℕ) (bs : List ℕ) (i : ℕ) (ys : List ℕ) → ys ≡ sets xs at (take i bs) → i < length bs → set ys (at + i) (get_or bs i 0) ≡ sets xs at (take (i + 1) bs)
+copied_next xs at bs i ys so_far h = rw so_far (sets_next xs at bs i h)
 
 -- the four bytes of the low 32 bits of a number
 low_bytes : (v : ℕ) → to_le_bytes w32 (bit_and v 4294967295) ≡ bytes 4 v

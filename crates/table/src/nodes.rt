@@ -10,7 +10,8 @@ ghost use Rattle.table.specs.Nodes.{Opens, lead_is, node_is, KindFits};
 
 use crate::entries::{Keyed, Parts, keyed_at, rest_at};
 use crate::refusals::Fault;
-use crate::tested::{Frame, Table};
+pub use crate::tested::Frame;
+use crate::tested::Table;
 use crate::words::get_wide;
 
 // Bytes of the header; no image is shorter, and the first node starts behind it.

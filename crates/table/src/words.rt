@@ -39,10 +39,12 @@ pub(crate) fn put_word(s: &mut [u8], o: usize, v: usize)
     put_bytes(s, o, &low.to_le_bytes());
 }
 
-// Writes the bytes b at a place.
+// Writes the bytes b at a place. The library's copy_from_slice would need memmove, which the archive for C asks of nobody.
 pub(crate) fn put_bytes(s: &mut [u8], at: usize, b: &[u8])
     requires { at + length b.now ≤ length s.old }
     ensures { s.new ≡ sets s.old at b.now }
 {
-    s[at..at + b.len()].copy_from_slice(b);
+    for i in 0..b.len() {
+        s[at + i] = b[i];
+    }
 }

@@ -1,7 +1,10 @@
--- `words::put_bytes`: what was copied stands at the place.
-use Rattle.std.proofs.Common.{arith}
-use Rattle.table.proofs.WordsLaws.{pasted}
+-- `words::put_bytes`: after i turns the first i bytes are written.
+use mathlib.Core.Path.{refl}
+use Rattle.table.proofs.WordsLaws.{copied_next}
 use Rattle.table.proofs.words.put_bytes.Goals as goal
 
-pub returns : goal.returns
-returns c = rw c.copy_from_slice.ensures.after (pasted c.args.s.now c.args.b.now c.args.at _ (omega arith) c.requires)
+pub loop-i-init : goal.loop-i-init
+loop-i-init c = refl
+
+pub loop-i-preserved : goal.loop-i-preserved
+loop-i-preserved c = copied_next _ _ _ _ _ c.loop-i.invariant c.loop-i-test.true
