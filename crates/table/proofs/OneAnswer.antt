@@ -8,6 +8,7 @@ use mathlib.Core.Bool.{Bool, true, false, true≢false}
 use Rattle.std.specs.Prelude.{Option, Some, None, Result, Ok, Err, IfErr}
 use Rattle.rule.specs.Order.{Ord, less, equal, greater}
 use Rattle.rule.specs.Entries.{Entry}
+use Rattle.image.specs.Readers.{Read, got, bad}
 use Rattle.image.specs.Refusals as is
 use Rattle.image.specs.Refusals.{Answer, refused, given}
 use Rattle.image.specs.Sound.{header_holds}
@@ -17,10 +18,10 @@ use Rattle.image.specs.EntryMoves.{Cursor, nowhere, on, in_table, EntryMove, Spa
 use Rattle.image.specs.Search.{Turn as TurnIs, onward, halt, below as down}
 use Rattle.image.specs.Cuts.{Cut, all, from, above, below}
 use Rattle.image.specs.Newest.{NewestAt as NewestAtIs, value, deletion, nothing}
-use Rattle.table.specs.Refusals.{refusal_is, refusal_number, damage_as, answer_as}
+use Rattle.table.specs.Refusals.{refusal_is, refusal_number, read_as, damage_as, answer_as}
 use Rattle.table.specs.KeyTypes.{ord_of}
 use Rattle.table.specs.Framed.{Framed}
-use Rattle.table.specs.Skipmap.{turn_is, LinksFrom}
+use Rattle.table.specs.Skipmap.{turn_is, LinksFrom, TurnLinks}
 use Rattle.table.specs.Memtable.{Freshens, Adds, lookup_is, Gets}
 use Rattle.table.specs.EntryViews.{span_is, Spans}
 use Rattle.table.specs.Presence.{Contains, ShowsRow}
@@ -32,6 +33,7 @@ use Rattle.std.specs.declared.cmp.Ordering.TheVariants.{Less, Equal, Greater}
 use Rattle.table.specs.declared.tested.Frame.{Frame}
 use Rattle.table.specs.declared.skipmap.Turn.{Turn}
 use Rattle.table.specs.declared.skipmap.Turn.TheVariants as turn
+use Rattle.table.specs.declared.refusals.Fault.{Fault}
 use Rattle.table.specs.declared.refusals.Damage.{Damage}
 use Rattle.table.specs.declared.refusals.Refusal.{Refusal}
 use Rattle.table.specs.declared.refusals.Refusal.TheVariants.{BadImage, BadKind, BadNumber, LongKey, LongValue, BadHeight, NoRoom, Duplicate, Damaged, NoNode}
@@ -286,15 +288,28 @@ companion_one r q e = recovered refusal_number companion_from back r q e
     back (Some NoNode) = refl
 
 -- `turn_by`: together with where the links of a passed node stand
-pub turn_one : (links : ℕ) (r q : Turn) → turn_is r ≡ turn_is q → LinksFrom links r → LinksFrom links q → r ≡ q
-turn_one links r q e a b = sym (back r a) ∙ ap passes e ∙ back q b
-  where
-    passes : TurnIs → Turn
-    passes onward = turn.Onward links
-    passes halt = turn.Halt
-    passes down = turn.Below
+turn_from : ℕ → TurnIs → Turn
+turn_from links onward = turn.Onward links
+turn_from links halt = turn.Halt
+turn_from links down = turn.Below
 
-    back : (r : Turn) → LinksFrom links r → passes (turn_is r) ≡ r
-    back (turn.Onward at) h = ap {B = Turn} turn.Onward (sym h)
-    back turn.Halt h = refl
-    back turn.Below h = refl
+turn_back : (links : ℕ) (r : Turn) → LinksFrom links r → turn_from links (turn_is r) ≡ r
+unfolding turn_from
+turn_back links (turn.Onward at) h = ap {B = Turn} turn.Onward (sym h)
+turn_back links turn.Halt h = refl
+turn_back links turn.Below h = refl
+
+pub turn_one : (links : ℕ) (r q : Turn) → turn_is r ≡ turn_is q → LinksFrom links r → LinksFrom links q → r ≡ q
+turn_one links r q e a b = sym (turn_back links r a) ∙ ap (turn_from links) e ∙ turn_back links q b
+
+-- and of a look that may meet a byte at fault
+pub look_one : (links : ℕ) (r q : Result Turn Fault) → read_as turn_is r ≡ read_as turn_is q → TurnLinks links r → TurnLinks links q → r ≡ q
+look_one links r q e a b = sym (back r a) ∙ ap from e ∙ back q b
+  where
+    from : Read TurnIs → Result Turn Fault
+    from (got t) = Ok (turn_from links t)
+    from (bad o) = Err (record { at = o })
+
+    back : (r : Result Turn Fault) → TurnLinks links r → from (read_as turn_is r) ≡ r
+    back (Ok t) h = ap {B = Result Turn Fault} Ok (turn_back links t h)
+    back (Err f) h = refl
