@@ -9,10 +9,10 @@ use mathlib.Core.Bool.{true}
 use lib.ListN.{length, length-append}
 use lib.Dec.{leb}
 use borrow.Author.Tests.{leb-true}
-use Rattle.rule.specs.Lists.{some, Pairwise}
+use Rattle.rule.specs.Lists.{Maybe, none, some, Pairwise}
 use Rattle.rule.specs.Order.{less, is_less}
 use Rattle.rule.specs.Entries.{Entry, order}
-use Rattle.rule.specs.Moves.{next, previous, target, best}
+use Rattle.rule.specs.Moves.{first, seek, next, previous, target, best}
 use Rattle.rule.proofs.Lists.{both_true}
 use Rattle.rule.proofs.Order.{entries_less_number}
 use Rattle.image.specs.Limits.{levels, max_nodes}
@@ -88,8 +88,17 @@ past_past below = refl
 
 -- the target of a move from a key is the best behind a cut
 module _ (s : ℕ) (es : List Entry) where
+  pub first_behind : (t : List ℕ) (k : Maybe (List ℕ)) → target first s k es ≡ best (λ a b. is_less (cmp_of all a b)) (admits all t) s es
+  first_behind t k = refl
+
+  pub seek_behind : (t : List ℕ) (k : Maybe (List ℕ)) → target (seek t) s k es ≡ best (λ a b. is_less (cmp_of from a b)) (admits from t) s es
+  seek_behind t k = refl
+
   pub next_behind : (k : List ℕ) → target next s (some k) es ≡ best (λ a b. is_less (cmp_of above a b)) (admits above k) s es
   next_behind k = refl
+
+  pub next_nowhere : (t : List ℕ) → target next s none es ≡ best (λ a b. is_less (cmp_of all a b)) (admits all t) s es
+  next_nowhere t = refl
 
   pub previous_behind : (k : List ℕ) → target previous s (some k) es ≡ best (λ a b. is_less (cmp_of below a b)) (admits below k) s es
   previous_behind k = refl
