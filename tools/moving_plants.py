@@ -19,11 +19,12 @@ PLANTS = {
         "    let w = [1u8; 4];\n    u32::from_le_bytes([w[0], s[o + 1],": "indexes w[0]",
         "    let len_size = |i: usize| s[i];\n    u32::from_le_bytes([len_size(o), len_size(o),": "in a closure",
     },
-    ("words", "put_bytes", "    s[at..at + b.len()].copy_from_slice(b);"): {
-        "    s[at..at + b.len()].copy_from_slice(b);\n    s[at] = b[0];": "reads b more than once",
-        "    for _ in 0..2 {\n        s[at..at + b.len()].copy_from_slice(b);\n    }": "reads b more than once",
-        "    let c = b;\n    s[at..at + b.len()].copy_from_slice(b);\n    s[at..at + c.len()].copy_from_slice(c);": "gives a lent slice",
-        "    for i in 0..b.len() {\n        let d = &b[i];\n        s[at + i] = b[i] | *d;\n    }": "reads b[i] more than once",
+    ("words", "put_bytes", "        s[at + i] = b[i];"): {
+        "        s[at + i] = b[i] | b[i];": "reads b[i] more than once",
+        "        let d = &b[i];\n        s[at + i] = b[i] | *d;": "reads b[i] more than once",
+        "        let c = b;\n        s[at + i] = b[i] | c[i];": "indexes c[i]",
+        "        s[at] = b[0];": "reads b[0] more than once",
+        "        s[at + i] = b[i];\n        s[at..at + b.len()].copy_from_slice(b);": "reads b more than once",
     },
     ("words", "get_u64", "    let low = get_word(s, o);"): {
         "    let low = s[o] as u32;": "indexes s[o]",
