@@ -1,27 +1,47 @@
 // Which bytes differ between an image and what it was.
-use std::alloc::{AllocError, Global};
+use crate::LONGEST_ANSWER;
+use std::alloc::AllocError;
 
-// Writes all stretches of bytes that differ, or that there is none.
-pub fn all(alloc: Global, image: &[u8], before: &[u8], out: &mut String) -> Result<(), AllocError> {
-    let places: Vec<usize> = image
-        .iter()
-        .zip(before)
-        .enumerate()
-        .filter(|(_, (byte, was))| byte != was)
-        .map(|(i, _)| i)
-        .collect(alloc)?;
-    if places.is_empty() {
-        return out.push_str("nothing");
+// The first place from a place on where the bytes differ.
+fn differing(image: &[u8], before: &[u8], from: usize) -> Option<usize> {
+    let mut bytes = image.get(from..)?.iter().zip(before.get(from..)?);
+    from.checked_add(bytes.position(|(byte, was)| byte != was)?)
+}
+
+// The first place from a place on where they are the same.
+fn same(image: &[u8], before: &[u8], from: usize) -> Option<usize> {
+    let mut bytes = image.get(from..)?.iter().zip(before.get(from..)?);
+    from.checked_add(bytes.position(|(byte, was)| byte == was)?)
+}
+
+// Writes a stretch: its first byte and, where it has more, its last, which stands before the one behind it.
+fn write(first: usize, behind: usize, out: &mut String) -> Result<(), AllocError> {
+    if !out.is_empty() {
+        out.push(' ')?;
     }
-    for stretch in places.chunk_by(|i, next| i.checked_add(1) == Some(*next)) {
-        if !out.is_empty() {
-            out.push(' ')?;
+    let last = behind.saturating_sub(1);
+    if first == last {
+        return write!(out, "{first}");
+    }
+    write!(out, "{first}-{last}")
+}
+
+// Writes all stretches of bytes that differ, as far as an answer shows them, or that there is none.
+pub fn all(image: &[u8], before: &[u8], out: &mut String) -> Result<(), AllocError> {
+    let len = image.len().min(before.len());
+    let mut from = 0;
+    // There are no more stretches than bytes.
+    for _ in image {
+        match differing(image, before, from) {
+            Some(first) if out.len() < LONGEST_ANSWER => {
+                from = same(image, before, first).unwrap_or(len);
+                write(first, from, out)?;
+            }
+            _ => break,
         }
-        match stretch {
-            [] => {}
-            [only] => write!(out, "{only}")?,
-            [first, .., last] => write!(out, "{first}-{last}")?,
-        }
+    }
+    if out.is_empty() {
+        return out.push_str("nothing");
     }
     Ok(())
 }

@@ -59,7 +59,7 @@ pub fn follow(
         [b"case", first, second] => state.begin(number(first)?, number(second)?)?,
         [b"changed"] => {
             let (image, before) = state.written();
-            changes::all(alloc, image, before, out)?
+            changes::all(image, before, out)?
         }
         _ => pair::ask(alloc, words, state, out)?,
     }

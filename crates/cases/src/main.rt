@@ -33,6 +33,9 @@ const TOO_LONG: usize = 524288;
 // No more of an answer is compared and written: the longest value, 4,096 bytes, and some words.
 const LONGEST_ANSWER: usize = 4200;
 
+// No line of a case has more words than this; one more is enough to tell that a line is none.
+const MOST_WORDS: usize = 4;
+
 const ARROW: &[u8] = b" -> ";
 
 // Whether an answer is the expected one. Behind two dots at its end an expectation says nothing.
@@ -97,7 +100,10 @@ impl<W: Write + Drop> Run<W> {
     // Runs the line with the number n, the first being 1. One that asks nothing is counted only if it is wrong.
     fn line(&mut self, n: u64, line: &[u8]) -> io::Result<()> {
         let (call, expected) = cut(line);
-        let words: Vec<&[u8]> = call.split(|b| *b == b' ').collect(self.alloc)?;
+        let words: Vec<&[u8]> = call
+            .split(|b| *b == b' ')
+            .take(MOST_WORDS + 1)
+            .collect(self.alloc)?;
         let mut out = String::new(self.alloc);
         match lines::follow(self.alloc, words.as_slice(), &mut self.state, &mut out) {
             Ok(()) => {}

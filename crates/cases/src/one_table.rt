@@ -1,26 +1,31 @@
 // The questions to one table, but for those to its entry cursor.
-use crate::answers;
 use crate::answers::Lookup;
 use crate::entry::{Entry, Key};
 use crate::given::number;
-use crate::show::{Hex, View, part};
+use crate::show::{View, digits, part};
 use crate::trouble::{NoLine, Trouble};
+use crate::{LONGEST_ANSWER, answers};
 use capi::memtable::{
     bavo_check, bavo_contains, bavo_get, bavo_get_value, bavo_value, bavo_value_refusal,
 };
 use std::alloc::{AllocError, Global};
 
-// So many bytes of the image from a place on, four to a group.
+// So many bytes of the image from a place on, four to a group, but none that stand behind the longest answer: each has two digits.
 fn bytes(image: &[u8], from: usize, len: usize, out: &mut String) -> Result<(), Trouble> {
     let stretch = part(image, from, len).ok_or(NoLine)?;
     if stretch.is_empty() {
         return Err(Trouble::NoLine);
     }
-    for group in stretch.chunks(4) {
+    let shown = stretch.get(..LONGEST_ANSWER / 2).unwrap_or(stretch);
+    for group in shown.chunks(4) {
         if !out.is_empty() {
             out.push(' ')?;
         }
-        write!(out, "{}", Hex(group))?;
+        for b in group {
+            let [high, low] = digits(*b);
+            out.push(char::from(high))?;
+            out.push(char::from(low))?;
+        }
     }
     Ok(())
 }

@@ -5,10 +5,15 @@ use crate::given::is_plain;
 use crate::tables::Table;
 use capi::memtable::BavoView;
 use std::alloc::AllocError;
-use std::fmt;
+use std::{fmt, str};
 
 // More equal bytes than this are written as one letter so many times.
 const LONG: usize = 16;
+
+const DIGITS: &[u8; 16] = b"0123456789abcdef";
+
+// The digits of so many bytes are written at once.
+const AT_ONCE: usize = 32;
 
 // A part of some bytes, if they have it.
 pub fn part(s: &[u8], from: usize, len: usize) -> Option<&[u8]>
@@ -17,14 +22,25 @@ pub fn part(s: &[u8], from: usize, len: usize) -> Option<&[u8]>
     s.get(from..)?.get(..len)
 }
 
+// The two digits of a byte in hexadecimal.
+pub fn digits(b: u8) -> [u8; 2] {
+    [DIGITS[usize::from(b >> 4)], DIGITS[usize::from(b & 15)]]
+}
+
 // Bytes in hexadecimal.
 #[derive(Clone, Copy, Debug)]
 pub struct Hex<'a>(pub &'a [u8]);
 
 impl fmt::Display for Hex<'_> {
     fn fmt<W: fmt::Write>(&self, f: &mut fmt::Formatter<W>) -> fmt::Result {
-        for b in self.0 {
-            write!(f, "{b:02x}")?;
+        let mut space = [[0; 2]; AT_ONCE];
+        for chunk in self.0.chunks(AT_ONCE) {
+            let pairs = space.get_mut(..chunk.len()).ok_or(fmt::Error)?;
+            for (pair, b) in pairs.iter_mut().zip(chunk) {
+                *pair = digits(*b);
+            }
+            let text = str::from_utf8(pairs.as_flattened()).map_err(|_| fmt::Error)?;
+            f.write_str(text)?;
         }
         Ok(())
     }
@@ -39,16 +55,14 @@ impl fmt::Display for Bytes<'_> {
         let Some(first) = self.0.first() else {
             return f.write_str("\"\"");
         };
-        if !is_plain(self.0) {
-            return write!(f, "x:{}", Hex(self.0));
-        }
+        let text = match str::from_utf8(self.0) {
+            Ok(text) if is_plain(self.0) => text,
+            _ => return write!(f, "x:{}", Hex(self.0)),
+        };
         if self.0.len() > LONG && self.0.iter().all(|b| b == first) {
             return write!(f, "{}*{}", char::from(*first), self.0.len());
         }
-        for b in self.0 {
-            f.write_char(char::from(*b))?;
-        }
-        Ok(())
+        f.write_str(text)
     }
 }
 

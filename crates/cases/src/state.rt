@@ -35,6 +35,8 @@ impl Memory {
             return Err(Trouble::NoLine);
         }
         self.image.clear();
+        // No more than asked for: resize alone would make room for twice as many.
+        self.image.reserve_exact(len)?;
         Ok(self.image.resize(len, with)?)
     }
 
