@@ -71,15 +71,13 @@ struct Run<W> {
 }
 
 impl<W: Write + Drop> Run<W> {
-    fn new(alloc: Global, to: W) -> Result<Run<W>, AllocError> {
-        let state = State::new(alloc)?;
-        let tally = Tally::default();
-        Ok(Run {
+    fn new(alloc: Global, to: W) -> Run<W> {
+        Run {
             alloc,
             to,
-            state,
-            tally,
-        })
+            state: State::new(alloc),
+            tally: Tally::default(),
+        }
     }
 
     // Counts a line whose answer differs, or that is none, and writes it.
@@ -136,8 +134,12 @@ impl<W: Write + Drop> Run<W> {
 }
 
 fn main(rt: HostRuntime) -> io::Result<()> {
-    let alloc = rt.alloc();
-    let mut text = Vec::new(alloc);
-    rt.reader().take(TOO_LONG as u64).read_to_end(&mut text)?;
-    Run::new(alloc, io::writer(&rt))?.text(text.as_slice())
+    // On the stack, where the text takes no more than this; a Vec asks for twice as much each time that it is full.
+    let mut space = [0; TOO_LONG];
+    let n = io::copy(
+        &mut rt.reader().take(TOO_LONG as u64),
+        &mut space.as_mut_slice(),
+    )?;
+    let text = space.get(..n as usize).unwrap_or(&[]);
+    Run::new(rt.alloc(), io::writer(&rt)).text(text)
 }

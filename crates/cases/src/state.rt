@@ -6,7 +6,7 @@ use crate::tally::Source;
 use crate::trouble::Trouble;
 use capi::db_iter::BavoCursor;
 use capi::entry_iter::BavoEntryCursor;
-use std::alloc::{AllocError, Global};
+use std::alloc::Global;
 
 // A memory has at most this many bytes: the longest image, and one byte more.
 pub const SIZE: usize = 65537;
@@ -55,19 +55,19 @@ pub struct State {
     pub by: Source,
     pub cursor: BavoCursor,
     wrote: Table,
-    before: Vec<u8>,
+    before: [u8; SIZE],
 }
 
 impl State {
     // As before the first line.
-    pub fn new(alloc: Global) -> Result<State, AllocError> {
-        Ok(State {
+    pub fn new(alloc: Global) -> State {
+        State {
             memories: [Memory::new(alloc), Memory::new(alloc)],
             by: Source::Document,
             cursor: BavoCursor { table: 0, node: 0 },
             wrote: Table::A,
-            before: vec![in alloc; 0; SIZE]?,
-        })
+            before: [0; SIZE],
+        }
     }
 
     pub fn memory(&self, table: Table) -> &Memory {
@@ -98,16 +98,13 @@ impl State {
         // A memory is lent beside `before` only through a & to them all.
         let memories = &*memories;
         let image = memories[table as usize].image.as_slice();
-        if let Some(kept) = before.as_mut_slice().get_mut(..image.len()) {
+        if let Some(kept) = before.get_mut(..image.len()) {
             kept.copy_from_slice(image);
         }
     }
 
     // The table of the last fresh or add as it is, and what it was.
     pub fn written(&self) -> (&[u8], &[u8]) {
-        (
-            self.memory(self.wrote).image.as_slice(),
-            self.before.as_slice(),
-        )
+        (self.memory(self.wrote).image.as_slice(), &self.before)
     }
 }
