@@ -2,10 +2,20 @@
 use crate::LONGEST_ANSWER;
 use std::alloc::AllocError;
 
+// So many bytes are compared at once where they are the same.
+const AT_ONCE: usize = 256;
+
 // The first place from a place on where the bytes differ.
 fn differing(image: &[u8], before: &[u8], from: usize) -> Option<usize> {
-    let mut bytes = image.get(from..)?.iter().zip(before.get(from..)?);
-    from.checked_add(bytes.position(|(byte, was)| byte != was)?)
+    let before = before.get(from..image.len())?;
+    let image = image.get(from..)?;
+    let mut chunks = image.chunks(AT_ONCE).zip(before.chunks(AT_ONCE));
+    let same = chunks
+        .position(|(bytes, were)| bytes != were)?
+        .checked_mul(AT_ONCE)?;
+    let mut bytes = image.get(same..)?.iter().zip(before.get(same..)?);
+    let behind = bytes.position(|(byte, was)| byte != was)?;
+    from.checked_add(same)?.checked_add(behind)
 }
 
 // The first place from a place on where they are the same.
