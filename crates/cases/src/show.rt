@@ -22,7 +22,7 @@ pub fn part(s: &[u8], from: usize, len: usize) -> Option<&[u8]>
     s.get(from..)?.get(..len)
 }
 
-// The two digits of a byte in hexadecimal.
+// The two digits of a byte in hexadecimal. The library's {:02x} takes several times as long, which long answers show.
 pub fn digits(b: u8) -> [u8; 2] {
     [DIGITS[usize::from(b >> 4)], DIGITS[usize::from(b & 15)]]
 }

@@ -48,7 +48,8 @@ impl Memory {
 }
 
 // The two tables' memories; who answers; the visible cursor as C keeps it; the table of the last fresh or add, and the bytes that it
-// had before. These are as many as a memory can have: where the table has been lent longer since, older bytes stand behind.
+// had before. These are as many as a memory can have: where the table has been lent longer since, older bytes stand behind. They are an array,
+// on the stack: beside the two images a Vec of them would make the heap grow.
 #[derive(Drop)]
 pub struct State {
     memories: [Memory; 2],
